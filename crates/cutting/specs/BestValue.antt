@@ -1,0 +1,26 @@
+-- The best value by trying every line: an executable definition, slow and plain. It is proved to be the best value.
+use Prim.Native.Nat.{ℕ, zero, suc, _+_, _-_, max}
+use mathlib.Core.Bool.{Bool, true, false, cond, _&&_}
+use mathlib.Core.List.{List, [], _∷_}
+use lib.Dec.{eqb}
+use Rattle.laws.specs.Below.{bestBelow}
+use Rattle.cutting.specs.Piece.{Piece}
+use Rattle.cutting.specs.Dissection.{rest}
+
+-- The largest value of a piece of exactly this size, and 0 where there is none.
+unfoldable pub exactValue : List Piece → ℕ → ℕ → ℕ
+exactValue [] x y = 0
+exactValue (p ∷ pieces) x y = max (cond (eqb (p .width) x && eqb (p .height) y) (p .value) 0) (exactValue pieces x y)
+
+-- The most over the lines at 1, …, x − 1 through a side x, where a line's two parts earn `near c + far (x − c)`.
+abbrev pub everyLine : (ℕ → ℕ) → ℕ → ℕ
+everyLine part x = bestBelow (λ i. part (suc i) + part (rest x (suc i))) (x - 1)
+
+-- With at most k lines one below the other.
+unfoldable pub bestWithin : List Piece → ℕ → ℕ → ℕ → ℕ
+bestWithin pieces zero x y = exactValue pieces x y
+bestWithin pieces (suc k) x y = max (exactValue pieces x y) (max (everyLine (λ c. bestWithin pieces k c y) x) (everyLine (λ d. bestWithin pieces k x d) y))
+
+-- Each line shortens a side by 1 at least.
+unfoldable pub bestValue : List Piece → ℕ → ℕ → ℕ
+bestValue pieces x y = bestWithin pieces (x + y) x y

@@ -1,0 +1,65 @@
+-- "One stock rectangle, a list of valued pieces, an unlimited number of each."
+use Prim.Native.Nat.{ℕ, _-_, _≤_}
+use mathlib.Core.Path.{_≡_}
+use mathlib.Core.List.{List}
+use lib.ListN.{length, getD}
+use Rattle.cutting.specs.Limits.{sizeMax, valueMax}
+
+pub record Piece : Type 0 where
+  pub width : ℕ
+  pub height : ℕ
+  pub value : ℕ
+
+-- What stands where there is no piece.
+abbrev pub noPiece : Piece
+noPiece = record { width = 0; height = 0; value = 0 }
+
+-- "pieces n: 0 to 64, numbered from 1": piece k of the list.
+unfoldable pub pieceAt : List Piece → ℕ → Piece
+pieceAt pieces k = getD pieces (k - 1) noPiece
+
+-- Piece number k is p by q and has value v.
+pub record Numbered (pieces : List Piece) (k p q v : ℕ) : Type 0 where
+  pub first : 1 ≤ k
+  pub last : k ≤ length pieces
+  pub width : pieceAt pieces k .width ≡ p
+  pub height : pieceAt pieces k .height ≡ q
+  pub value : pieceAt pieces k .value ≡ v
+
+-- Which sizes may lie on the board, and for what value: `lay p q v`. Everything below speaks of such a relation and not of
+-- lists, so that other lays (turned ones, or only those within a height) are other relations and no new theory.
+abbrev pub Lay : Type 1
+Lay = ℕ → ℕ → ℕ → Type 0
+
+-- The lays of a list of pieces: "the grain is fixed", so each piece lies as it is.
+pub record Lays (pieces : List Piece) (p q v : ℕ) : Type 0 where
+  pub number : ℕ
+  pub numbered : Numbered pieces number p q v
+
+-- Widths and heights are one theory, turned.
+abbrev pub Turned : Lay → Lay
+Turned lay p q v = lay q p v
+
+-- "piece width p, height q: 1 to 4,095", "piece value v: 1 to 65,535"
+pub record PieceInRange (p q v : ℕ) : Type 0 where
+  pub widthLeast : 1 ≤ p
+  pub widthMost : p ≤ sizeMax
+  pub heightLeast : 1 ≤ q
+  pub heightMost : q ≤ sizeMax
+  pub valueLeast : 1 ≤ v
+  pub valueMost : v ≤ valueMax
+
+abbrev pub InRange : Lay → Type 0
+InRange lay = (p q v : ℕ) → lay p q v → PieceInRange p q v
+
+-- A size p by q fits in x by y: "p ≤ x and q ≤ y".
+pub record Fits (p q x y : ℕ) : Type 0 where
+  pub wide : p ≤ x
+  pub high : q ≤ y
+
+-- The rectangle x by y "(both at least 1)" lies inside a by b.
+pub record Inside (x y a b : ℕ) : Type 0 where
+  pub widthLeast : 1 ≤ x
+  pub widthMost : x ≤ a
+  pub heightLeast : 1 ≤ y
+  pub heightMost : y ≤ b

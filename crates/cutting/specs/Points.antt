@@ -1,0 +1,26 @@
+-- "P is the set of sums of one or more piece widths, repeats allowed, that are at most a; Q the same for heights and b
+-- (001, Theorem 1). Zero belongs to neither."
+use Prim.Native.Nat.{ℕ, _+_, _≤_}
+use mathlib.Core.Path.{_≡_}
+use Rattle.cutting.specs.Piece.{Lay, Turned}
+
+-- p is the width of a piece.
+pub record Width (lay : Lay) (p : ℕ) : Type 0 where
+  pub height : ℕ
+  pub value : ℕ
+  pub lies : lay p height value
+
+-- "sums of one or more .., repeats allowed"
+pub data Sum (size : ℕ → Type 0) : ℕ → Type 0 where
+  one : {s : ℕ} → size s → Sum size s
+  more : {s r t : ℕ} → size s → Sum size r → t ≡ s + r → Sum size t
+
+-- c is in P, for the stock width a.
+pub record P (lay : Lay) (a c : ℕ) : Type 0 where
+  pub sum : Sum (Width lay) c
+  pub within : c ≤ a
+  pub notZero : 1 ≤ c
+
+-- d is in Q, for the stock height b: "the same for heights and b".
+abbrev pub Q : Lay → ℕ → ℕ → Type 0
+Q lay b d = P (Turned lay) b d

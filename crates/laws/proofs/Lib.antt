@@ -1,0 +1,6 @@
+-- The laws of the definitions in specs/, a file for each.
+pub mod Order
+pub mod Largest
+pub mod Says
+pub mod Below
+pub mod ByIndex

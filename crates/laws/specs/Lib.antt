@@ -1,0 +1,5 @@
+-- General definitions that the kit lacks, one idea a file.
+pub mod Largest
+pub mod Says
+pub mod Below
+pub mod ByIndex

@@ -1,0 +1,32 @@
+-- Tests over a box: the cells (u, w) "with u ≤ x and w ≤ y".
+use Prim.Native.Nat.{ℕ, suc, _*_}
+use mathlib.Core.Bool.{Bool, cond, not, _&&_}
+use mathlib.Core.List.{List}
+use lib.Dec.{ltb, eqb}
+use Rattle.laws.specs.Below.{anyBelow, sumBelow}
+use Rattle.cutting.specs.Limits.{valueMax}
+use Rattle.cells.specs.Cells.{empty, cellOf}
+
+-- Is the test true of some cell of row w, in columns 1 to x?
+unfoldable pub anyInRow : ℕ → ℕ → (ℕ → ℕ → Bool) → Bool
+anyInRow x w test = anyBelow (λ i. test (suc i) w) x
+
+-- Is the test true of some cell of the box?
+unfoldable pub anyInBox : ℕ → ℕ → (ℕ → ℕ → Bool) → Bool
+anyInBox x y test = anyBelow (λ j. anyInRow x (suc j) test) y
+
+-- Of how many cells of row w, in columns 1 to x, is the test true?
+unfoldable pub countInRow : ℕ → ℕ → (ℕ → ℕ → Bool) → ℕ
+countInRow x w test = sumBelow (λ i. cond (test (suc i) w) 1 0) x
+
+-- Of how many cells of the box is the test true?
+unfoldable pub countInBox : ℕ → ℕ → (ℕ → ℕ → Bool) → ℕ
+countInBox x y test = sumBelow (λ j. countInRow x (suc j) test) y
+
+-- Is cell (u, w) empty?
+unfoldable pub isEmpty : ℕ → List ℕ → ℕ → ℕ → Bool
+isEmpty a t u w = eqb (cellOf a t u w) empty
+
+-- "a non-empty cell (u, w) in the box exceeds u·w·65,535"
+unfoldable pub exceeds : ℕ → List ℕ → ℕ → ℕ → Bool
+exceeds a t u w = not (isEmpty a t u w) && ltb (u * w * valueMax) (cellOf a t u w)

@@ -1,0 +1,1 @@
+// The row of cells of a sheet.

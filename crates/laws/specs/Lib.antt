@@ -3,3 +3,4 @@ pub mod Largest
 pub mod Says
 pub mod Below
 pub mod ByIndex
+pub mod Put

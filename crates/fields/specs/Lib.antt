@@ -1,0 +1,3 @@
+-- The numbers of a plan file as its bytes, and the running sum over them.
+pub mod Number
+pub mod Sum

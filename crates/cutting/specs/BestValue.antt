@@ -1,16 +1,20 @@
 -- The best value by trying every line: an executable definition, slow and plain. It is proved to be the best value.
 use Prim.Native.Nat.{ℕ, zero, suc, _+_, _-_, max}
-use mathlib.Core.Bool.{Bool, true, false, cond, _&&_}
-use mathlib.Core.List.{List, [], _∷_}
+use mathlib.Core.Bool.{cond, _&&_}
+use mathlib.Core.List.{List}
 use lib.Dec.{eqb}
+use lib.ListN.{length, getD}
 use Rattle.laws.specs.Below.{bestBelow}
-use Rattle.cutting.specs.Piece.{Piece}
+use Rattle.cutting.specs.Piece.{Piece, noPiece}
 use Rattle.cutting.specs.Dissection.{rest}
+
+-- What a piece earns on exactly this rectangle: its value where the size is right, else 0.
+unfoldable pub exactly : Piece → ℕ → ℕ → ℕ
+exactly piece x y = cond (eqb (piece .width) x && eqb (piece .height) y) (piece .value) 0
 
 -- The largest value of a piece of exactly this size, and 0 where there is none.
 unfoldable pub exactValue : List Piece → ℕ → ℕ → ℕ
-exactValue [] x y = 0
-exactValue (p ∷ pieces) x y = max (cond (eqb (p .width) x && eqb (p .height) y) (p .value) 0) (exactValue pieces x y)
+exactValue pieces x y = bestBelow (λ i. exactly (getD pieces i noPiece) x y) (length pieces)
 
 -- The most over the lines at 1, …, x − 1 through a side x, where a line's two parts earn `near c + far (x − c)`.
 abbrev pub everyLine : (ℕ → ℕ) → ℕ → ℕ

@@ -10,9 +10,13 @@ pub record Piece : Type 0 where
   pub height : ℕ
   pub value : ℕ
 
+-- The piece p by q of value v.
+abbrev pub sized : ℕ → ℕ → ℕ → Piece
+sized p q v = record { width = p; height = q; value = v }
+
 -- What stands where there is no piece.
 abbrev pub noPiece : Piece
-noPiece = record { width = 0; height = 0; value = 0 }
+noPiece = sized 0 0 0
 
 -- "pieces n: 0 to 64, numbered from 1": piece k of the list.
 unfoldable pub pieceAt : List Piece → ℕ → Piece

@@ -3,6 +3,7 @@
 use Prim.Native.Nat.{ℕ, _+_, _≤_}
 use mathlib.Core.Path.{_≡_}
 use Rattle.cutting.specs.Piece.{Lay, Turned}
+use Rattle.cutting.specs.Dissection.{Earns}
 
 -- p is the width of a piece.
 pub record Width (lay : Lay) (p : ℕ) : Type 0 where
@@ -24,3 +25,8 @@ pub record P (lay : Lay) (a c : ℕ) : Type 0 where
 -- d is in Q, for the stock height b: "the same for heights and b".
 abbrev pub Q : Lay → ℕ → ℕ → Type 0
 Q lay b d = P (Turned lay) b d
+
+-- What narrowing x by y to a point of P leaves of an earning e: e is 0, or a dissection as wide as a point of P earns as much.
+pub data Narrowed (lay : Lay) (x y e : ℕ) : Type 0 where
+  worthless : e ≡ 0 → Narrowed lay x y e
+  atPoint : (c : ℕ) → P lay x c → Earns lay c y e → Narrowed lay x y e

@@ -1,16 +1,13 @@
 -- "Sheets to try", as data: stock, pieces, and the best value that document 01 states.
 use Prim.Native.Nat.{ℕ}
 use mathlib.Core.List.{List, [], _∷_}
-use Rattle.cutting.specs.Piece.{Piece}
+use Rattle.cutting.specs.Piece.{Piece, sized}
 
 pub record Sheet : Type 0 where
   pub width : ℕ
   pub height : ℕ
   pub pieces : List Piece
   pub best : ℕ
-
-abbrev pub sized : ℕ → ℕ → ℕ → Piece
-sized p q v = record { width = p; height = q; value = v }
 
 -- "K1: stock 3 by 3, pieces 1 by 2 value 2, 2 by 3 value 6 ..: 8."
 abbrev pub K1 : Sheet

@@ -1,7 +1,7 @@
 -- Two numbers stand one way or the other: a sum to take apart, not a mere proposition.
-use Prim.Native.Nat.{ℕ, zero, suc, _≤_, _<_}
-use mathlib.Core.Path.{_≡_}
-use mathlib.Core.Logic.{_⊎_, inl, inr}
+use Prim.Native.Nat.{ℕ, zero, suc, _≤_, _<_, max}
+use mathlib.Core.Path.{_≡_, subst}
+use mathlib.Core.Logic.{_⊎_, inl, inr, ⊎-elim}
 use native.Mathlib.Omega.{arith}
 use native.Mathlib.Nat.{eq-or-lt-of-le, le-of-suc-le-suc}
 
@@ -17,3 +17,8 @@ le-or-lt (suc m) (suc n) = step (le-or-lt m n)
 -- An index below n + 1 is n or below n.
 pub last-or-below : {k n : ℕ} → k < suc n → (k ≡ n) ⊎ (k < n)
 last-or-below h = eq-or-lt-of-le (le-of-suc-le-suc h)
+
+-- Where both numbers are in the set S, the larger is.
+pub larger : (S : ℕ → Type 0) {m n : ℕ} → S m → S n → S (max m n)
+larger S {m} {n} s r =
+    ⊎-elim (λ h. subst S (omega arith) s) (λ h. subst S (omega arith) r) (le-or-lt n m)

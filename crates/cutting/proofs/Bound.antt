@@ -1,0 +1,36 @@
+-- Theorem 5: "no earning exceeds x·y·65,535 for pieces in range", so no sum of cells overflows and refusal 7 never arises on a kept table.
+use Prim.Native.Nat.{ℕ, suc, _+_, _-_, _*_, _≤_}
+use mathlib.Core.Path.{_≡_, refl, sym, subst}
+use native.Mathlib.Omega.{arith}
+use native.Mathlib.Nat.{mul-le-mul, add-mul, mul-comm}
+use Rattle.cutting.specs.Limits.{valueMax}
+use Rattle.cutting.specs.Piece.{Lay, Turned, InRange, PieceInRange}
+use Rattle.cutting.specs.Dissection.{Line, Earns, Best}
+use Rattle.cutting.proofs.Dissection.{turned}
+
+-- The most that x by y can earn.
+abbrev pub most : ℕ → ℕ → ℕ
+most x y = x * y * valueMax
+
+-- The two parts of a line have at most the area of the whole.
+pub most-parts : (x y c r : ℕ) → c + r ≤ x → most c y + most r y ≤ most x y
+most-parts x y c r h = omega (arith, mul-le-mul {n₁ = c + r} {m₁ = y} {n₂ = x} {m₂ = y} h (omega arith))
+
+pub most-turned : (x y : ℕ) → most x y ≡ most y x
+most-turned x y = omega arith
+
+pub most-mono : (x y u w : ℕ) → x ≤ u → y ≤ w → most x y ≤ most u w
+most-mono x y u w h k = omega (arith, mul-le-mul {n₁ = x} {m₁ = y} {n₂ = u} {m₂ = w} h k)
+
+pub earning-bound : {lay : Lay} {x y e : ℕ} → InRange lay → Earns lay x y e → e ≤ most x y
+earning-bound range Earns.scrap = omega arith
+earning-bound {x = x} {y = y} {e = e} range (Earns.piece h) =
+    let g = range x y e h in
+    omega (arith, most-mono 1 1 x y (g .widthLeast) (g .heightLeast), g .valueMost)
+earning-bound {x = x} {y = y} range (Earns.vertical {c = c} {r = r} l s t) =
+    omega (arith, earning-bound range s, earning-bound range t, most-parts x y c r (omega arith))
+earning-bound {x = x} {y = y} range (Earns.horizontal {d = d} {r = r} l s t) =
+    omega (arith, earning-bound range s, earning-bound range t, most-parts y x d r (omega arith))
+
+pub best-bound : {lay : Lay} {x y v : ℕ} → InRange lay → Best lay x y v → v ≤ most x y
+best-bound range b = earning-bound range (b .attained)

@@ -1,0 +1,10 @@
+-- The theorems, a file for each idea. docs/PROMISES.md says which sentence each one carries.
+pub mod Dissection
+pub mod Points
+pub mod Rule
+pub mod Listed
+pub mod Fitting
+pub mod Bound
+pub mod Tree
+pub mod BestValue
+pub mod Sheets

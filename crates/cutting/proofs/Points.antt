@@ -1,0 +1,60 @@
+-- 001, Theorem 1: narrowing a rectangle to a point of P, or of Q, loses nothing.
+use Prim.Native.Nat.{ℕ, _+_, _-_, _≤_, _<_}
+use mathlib.Core.Path.{_≡_, refl, sym, subst}
+use mathlib.Core.Logic.{⊎-elim}
+use native.Mathlib.Omega.{arith}
+use Rattle.laws.proofs.Order.{le-or-lt}
+use Rattle.cutting.specs.Piece.{Lay, Turned}
+use Rattle.cutting.specs.Dissection.{Line, Earns}
+use Rattle.cutting.specs.Points.{Sum, P, Narrowed}
+use Rattle.cutting.proofs.Dissection.{turned, widened}
+
+-- "P is additive": sums of sums are sums.
+pub sum-add : {size : ℕ → Type 0} {s r t : ℕ} → Sum size s → Sum size r → t ≡ s + r → Sum size t
+sum-add {t = t} (Sum.one h) q e = Sum.more {t = t} h q (omega arith)
+sum-add {r = n} {t = t} (Sum.more {s = p} {r = m} h q e) w f =
+    Sum.more {s = p} {r = m + n} {t = t} h (sum-add q w refl) (omega arith)
+
+pub P-add : {lay : Lay} {a b c d : ℕ} → P lay a c → P lay b d → P lay (a + b) (c + d)
+P-add p q =
+    record { sum = sum-add (p .sum) (q .sum) refl; within = omega arith; notZero = omega arith }
+
+pub P-wider : {lay : Lay} {a c : ℕ} (b : ℕ) → c ≤ b → P lay a c → P lay b c
+P-wider b h p = record { sum = p .sum; within = h; notZero = p .notZero }
+
+-- Two parts side by side, at a line.
+beside : {lay : Lay} {x y c r e f : ℕ} → Line x c r → Narrowed lay c y e → Narrowed lay r y f → Narrowed lay x y (e + f)
+beside l (Narrowed.worthless g) (Narrowed.worthless h) = Narrowed.worthless (omega arith)
+beside {lay} {x} {y} l (Narrowed.worthless g) (Narrowed.atPoint c p d) =
+    Narrowed.atPoint c (P-wider x (omega arith) p) (subst (Earns lay c y) (omega arith) d)
+beside {lay} {x} {y} l (Narrowed.atPoint c p d) (Narrowed.worthless g) =
+    Narrowed.atPoint c (P-wider x (omega arith) p) (subst (Earns lay c y) (omega arith) d)
+beside {lay} {x} l (Narrowed.atPoint b p d) (Narrowed.atPoint c q k) =
+    Narrowed.atPoint (b + c) (P-wider x (omega arith) (P-add p q))
+    (Earns.vertical {x = b + c} {r = c} (record { least = p .notZero; most = omega arith; leaves = omega arith }) d k)
+
+-- Two parts one above the other: the narrower is widened to the other.
+above : {lay : Lay} {x y d r e f : ℕ} → Line y d r → Narrowed lay x d e → Narrowed lay x r f → Narrowed lay x y (e + f)
+above l (Narrowed.worthless g) (Narrowed.worthless h) = Narrowed.worthless (omega arith)
+above {lay} {d = d} l (Narrowed.worthless g) (Narrowed.atPoint c p k) =
+    Narrowed.atPoint c p (Earns.horizontal l (subst (Earns lay c d) (sym g) Earns.scrap) k)
+above {lay} {r = r} l (Narrowed.atPoint c p k) (Narrowed.worthless g) =
+    Narrowed.atPoint c p (Earns.horizontal l k (subst (Earns lay c r) (sym g) Earns.scrap))
+above l (Narrowed.atPoint b p k) (Narrowed.atPoint c q m) =
+    ⊎-elim (λ h. Narrowed.atPoint c q (Earns.horizontal l (widened c (p .notZero) h k) m))
+    (λ h. Narrowed.atPoint b p (Earns.horizontal l k (widened b (q .notZero) (omega arith) m)))
+    (le-or-lt b c)
+
+-- Theorem 2, second half, for widths.
+pub narrowed-width : {lay : Lay} {x y e : ℕ} → 1 ≤ x → Earns lay x y e → Narrowed lay x y e
+narrowed-width h Earns.scrap = Narrowed.worthless refl
+narrowed-width {x = x} h (Earns.piece {y = y} {v = v} g) =
+    Narrowed.atPoint x
+    (record { sum = Sum.one (record { height = y; value = v; lies = g }); within = omega arith; notZero = h })
+    (Earns.piece g)
+narrowed-width h (Earns.vertical l s t) = beside l (narrowed-width (l .least) s) (narrowed-width (omega arith) t)
+narrowed-width h (Earns.horizontal l s t) = above l (narrowed-width h s) (narrowed-width h t)
+
+-- The same for heights and Q, by turning.
+pub narrowed-height : {lay : Lay} {x y e : ℕ} → 1 ≤ y → Earns lay x y e → Narrowed (Turned lay) y x e
+narrowed-height h d = narrowed-width h (turned d)

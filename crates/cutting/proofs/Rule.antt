@@ -25,7 +25,7 @@ flip cell x y = cell y x
 
 candidate-turned : {lay : Lay} {a b : ℕ} {cell : ℕ → ℕ → ℕ} {u w e : ℕ} → Candidate lay a b cell u w e → Candidate (Turned lay) b a (flip cell) w u e
 candidate-turned Candidate.nothing = Candidate.nothing
-candidate-turned (Candidate.fitting h f) = Candidate.fitting h (record { wide = f .high; high = f .wide })
+candidate-turned (Candidate.fitting h f) = Candidate.fitting h (omega arith)
 candidate-turned (Candidate.vertical p h l) = Candidate.horizontal p h l
 candidate-turned (Candidate.horizontal p h l) = Candidate.vertical p h l
 
@@ -65,7 +65,7 @@ matched : (lay : Lay) (a b : ℕ) (cell : ℕ → ℕ → ℕ) (u w : ℕ) → I
 matched lay a b cell u w j below i Earns.scrap =
     record { worth = 0; candidate = Candidate.nothing; enough = omega arith }
 matched lay a b cell u w j below i (Earns.piece {v = v} h) =
-    record { worth = v; candidate = Candidate.fitting h (record { wide = i .widthMost; high = i .heightMost }); enough = omega arith }
+    record { worth = v; candidate = Candidate.fitting h (omega arith); enough = omega arith }
 matched lay a b cell u w j below i (Earns.vertical l s t) =
     across lay a b cell u w j below i l s t
     (matched lay a b cell u w j below (omega arith) s)
@@ -81,7 +81,7 @@ earned : (lay : Lay) → InRange lay → (a b : ℕ) (cell : ℕ → ℕ → ℕ
 earned lay range a b cell u w j below Candidate.nothing = Earns.scrap
 earned lay range a b cell u w j below (Candidate.fitting {p = p} {q = q} {v = v} h f) =
     let g = range p q v h in
-    enlarged u w (g .widthLeast) (f .wide) (g .heightLeast) (f .high) (Earns.piece h)
+    enlarged u w (g .widthLeast) (omega arith) (g .heightLeast) (omega arith) (Earns.piece h)
 earned lay range a b cell u w j below (Candidate.vertical {c = c} {r = r} p h l) =
     Earns.vertical l
     (below c w (record { inside = omega arith; less = omega arith }) .attained)

@@ -5,6 +5,10 @@ use Rattle.cutting.specs.Piece.{Lay, Fits, Inside}
 use Rattle.cutting.specs.Dissection.{Line, Best}
 use Rattle.cutting.specs.Points.{P, Q}
 
+-- "c ≤ u/2"
+abbrev pub UpToHalf : ℕ → ℕ → Type 0
+UpToHalf c u = c ≤ u / 2
+
 -- The sheet is a by b, and `cell x y` is the number in cell (x, y).
 pub data Candidate (lay : Lay) (a b : ℕ) (cell : ℕ → ℕ → ℕ) (u w : ℕ) : ℕ → Type 0 where
   -- "0;"
@@ -12,9 +16,9 @@ pub data Candidate (lay : Lay) (a b : ℕ) (cell : ℕ → ℕ → ℕ) (u w : �
   -- "v of a piece with p ≤ u and q ≤ w;"
   fitting : {p q v : ℕ} → lay p q v → Fits p q u w → Candidate lay a b cell u w v
   -- "cell (c, w) plus cell (u−c, w) for c in P with c ≤ u/2;"
-  vertical : {c r : ℕ} → P lay a c → c ≤ u / 2 → Line u c r → Candidate lay a b cell u w (cell c w + cell r w)
+  vertical : {c r : ℕ} → P lay a c → UpToHalf c u → Line u c r → Candidate lay a b cell u w (cell c w + cell r w)
   -- "cell (u, d) plus cell (u, w−d) for d in Q with d ≤ w/2."
-  horizontal : {d r : ℕ} → Q lay b d → d ≤ w / 2 → Line w d r → Candidate lay a b cell u w (cell u d + cell u r)
+  horizontal : {d r : ℕ} → Q lay b d → UpToHalf d w → Line w d r → Candidate lay a b cell u w (cell u d + cell u r)
 
 -- v is what the rule puts into cell (u, w).
 abbrev pub Worth : Lay → ℕ → ℕ → (ℕ → ℕ → ℕ) → ℕ → ℕ → ℕ → Type 0

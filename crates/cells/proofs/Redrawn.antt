@@ -2,7 +2,7 @@
 use Prim.Native.Nat.{ℕ, zero, suc, _+_, _*_, _/_, _%_, _≤_, _<_}
 use mathlib.Core.Bool.{Bool, true, false, cond}
 use mathlib.Core.Path.{_≡_, refl, sym, ap, ap₂, _∙_}
-use mathlib.Core.List.{List}
+use mathlib.Core.List.{List, [], _∷_}
 use mathlib.Core.Logic.{_⊎_, inl, inr, ⊎-elim}
 use native.Mathlib.Omega.{arith}
 use lib.ListN.{length, getD, set, length-set, List·getD-eq-default}
@@ -14,7 +14,7 @@ use Rattle.laws.specs.ByIndex.{byIndex}
 use Rattle.laws.proofs.ByIndex.{byIndex-length, byIndex-at, is-byIndex, byIndex-same}
 use Rattle.cutting.specs.Piece.{Inside}
 use Rattle.cells.specs.Cells.{empty, place, cellOf, redrawn}
-use Rattle.cells.proofs.Place.{place-below, place-column, place-row, cell-inside, cell-place, same-place}
+use Rattle.cells.proofs.Places.{place-below, place-column, place-row, cell-inside, cell-place, same-place}
 
 -- What index k of the redrawn row holds, by whether it is a cell.
 abbrev entry : ℕ → (ℕ → ℕ → ℕ) → List ℕ → ℕ → Bool → ℕ
@@ -87,6 +87,16 @@ redrawn-again a b f g t room =
     is-redrawn a b g t (redrawn a b g (redrawn a b f t)) (redrawn-length a b g (redrawn a b f t) ∙ long)
     (λ x y i. redrawn-cell g (redrawn a b f t) whole i)
     (λ k h. redrawn-beyond a b g (redrawn a b f t) k h ∙ redrawn-beyond a b f t k h)
+
+-- What the code reads at the place of a cell is the cell: within the row no default counts.
+pub read-cell : {x y a b : ℕ} (t : List ℕ) → a * b ≤ length t → Inside x y a b → (k : ℕ) → k ≡ place a x y → getD t k 0 ≡ cellOf a t x y
+unfolding cellOf
+read-cell {x} {y} {a} t room i k e = any-default t k (omega (arith, place-below i)) ∙ ap (λ n. getD t n empty) e
+  where
+    any-default : (t : List ℕ) (k : ℕ) → k < length t → getD t k 0 ≡ getD t k empty
+    any-default [] k h = absurd (omega arith)
+    any-default (v ∷ t) zero h = refl
+    any-default (v ∷ t) (suc k) h = any-default t k (omega arith)
 
 -- A store to cell (x, y), as cellOf sees it.
 pub store-same : {x y a b : ℕ} (t : List ℕ) (v : ℕ) → a * b ≤ length t → Inside x y a b → cellOf a (set t (place a x y) v) x y ≡ v

@@ -27,6 +27,10 @@ countInBox x y test = sumBelow (λ j. countInRow x (suc j) test) y
 unfoldable pub isEmpty : ℕ → List ℕ → ℕ → ℕ → Bool
 isEmpty a t u w = eqb (cellOf a t u w) empty
 
+-- Does the number v of a cell (u, w) exceed what the area may earn? An empty cell's does not.
+unfoldable pub tooMuch : ℕ → ℕ → ℕ → Bool
+tooMuch v u w = not (eqb v empty) && ltb (u * w * valueMax) v
+
 -- "a non-empty cell (u, w) in the box exceeds u·w·65,535"
 unfoldable pub exceeds : ℕ → List ℕ → ℕ → ℕ → Bool
-exceeds a t u w = not (isEmpty a t u w) && ltb (u * w * valueMax) (cellOf a t u w)
+exceeds a t u w = tooMuch (cellOf a t u w) u w

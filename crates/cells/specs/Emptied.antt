@@ -1,8 +1,8 @@
 -- Emptying: "All other cells keep their number."
-use Prim.Native.Nat.{ℕ}
+use Prim.Native.Nat.{ℕ, _+_}
 use mathlib.Core.Bool.{Bool, cond, _&&_}
 use mathlib.Core.List.{List}
-use lib.Dec.{leb}
+use lib.Dec.{leb, ltb}
 use Rattle.cells.specs.Cells.{empty, cellOf, redrawn}
 
 -- The row with "exactly the cells (x, y) where" `struck x y` emptied.
@@ -17,3 +17,17 @@ fits p q x y = leb p x && leb q y
 -- "Open a, b: empties the first a·b cells" is `emptied a b 1 1`.
 unfoldable pub emptied : ℕ → ℕ → ℕ → ℕ → List ℕ → List ℕ
 emptied a b p q t = emptiedWhere a b (fits p q) t
+
+-- Below, how far the loops have come.
+
+-- Is l ≤ k < h?
+unfoldable pub between : ℕ → ℕ → ℕ → Bool
+between l h k = leb l k && ltb k h
+
+-- The columns from p and before x, of the rows from q and before y.
+unfoldable pub block : ℕ → ℕ → ℕ → ℕ → ℕ → ℕ → Bool
+block p x q y u w = between p x u && between q y w
+
+-- The columns from p on, of row y.
+abbrev pub rowFrom : ℕ → ℕ → ℕ → ℕ → ℕ → Bool
+rowFrom a p y = block p (a + 1) y (y + 1)

@@ -2,15 +2,37 @@
 use Prim.Native.Nat.{ℕ, zero, suc, _+_, _-_, _*_, _/_, _%_, _≤_, _<_}
 use mathlib.Core.Path.{_≡_, refl, sym, ap, ap₂, _∙_}
 use native.Mathlib.Omega.{arith}
-use native.Mathlib.Nat.{suc-mul, mul-comm, zero-mul, mul-le-mul-right, mod-lt, mod-eq-of-lt, div-eq-of-lt, mul-add-mod-self-right, mul-add-div-right, div-add-mod', div-lt-iff-lt-mul}
+use native.Mathlib.Nat.{suc-mul, mul-comm, zero-mul, mul-le-mul, mul-le-mul-left, mul-le-mul-right, mod-lt, mod-eq-of-lt, div-eq-of-lt, mul-add-mod-self-right, mul-add-div-right, div-add-mod', div-lt-iff-lt-mul}
+use Rattle.cutting.specs.Limits.{sideMax}
 use Rattle.cutting.specs.Piece.{Inside}
-use Rattle.cells.specs.Cells.{place}
+use mathlib.Core.List.{List}
+use lib.ListN.{length}
+use Rattle.cells.specs.Cells.{place, Holds}
 
 pub place-below : {x y a b : ℕ} → Inside x y a b → place a x y < a * b
 unfolding place
 place-below {x} {y} {a} {b} i =
     let h : suc (y - 1) * a ≤ b * a = mul-le-mul-right a (omega arith) in
     omega (arith, suc-mul (y - 1) a, mul-comm a b)
+
+-- No place within the largest sheet overflows.
+pub rows-fit : (a y : ℕ) → a ≤ sideMax → y ≤ sideMax → (y - 1) * a ≤ sideMax * sideMax
+rows-fit a y h k =
+    let low : y - 1 ≤ sideMax = omega arith in
+    mul-le-mul low h
+
+-- The rows above a sheet a by y lie beyond it.
+pub place-above : {u w a b : ℕ} (y : ℕ) → Inside u w a b → y < w → a * y ≤ place a u w
+unfolding place
+place-above {u} {w} {a} y i h =
+    let g : y * a ≤ (w - 1) * a = mul-le-mul-right a (omega arith) in
+    omega (arith, mul-comm a y)
+
+-- A row that holds a sheet holds each lower one.
+pub holds-lower : {a b : ℕ} {t : List ℕ} (y : ℕ) → Holds a b t → 1 ≤ y → y ≤ b → Holds a y t
+holds-lower {a} {b} y s l m =
+    let g : a * y ≤ a * b = mul-le-mul-left a m in
+    omega arith
 
 -- The place gives the column and the row back.
 pub place-column : {x y a b : ℕ} → Inside x y a b → place a x y % a + 1 ≡ x

@@ -1,0 +1,101 @@
+-- The laws of emptying, for the desk and for the two loops.
+use Prim.Native.Nat.{ℕ, zero, suc, _+_, _*_, _≤_, _<_}
+use mathlib.Core.Bool.{Bool, true, false, cond, _&&_, _||_}
+use mathlib.Core.Path.{_≡_, refl, sym, ap, ap₂, _∙_}
+use mathlib.Core.List.{List}
+use mathlib.Core.Logic.{_⊎_, inl, inr, ⊎-elim}
+use native.Mathlib.Omega.{arith}
+use native.Mathlib.Nat.{mul-le-mul-left}
+use lib.ListN.{length, getD, set, length-set}
+use Rattle.laws.specs.Says.{Says}
+use Rattle.laws.proofs.Order.{le-or-lt}
+use Rattle.laws.proofs.Says.{says-and, says-or, says-le, says-lt, says-iff, says-no, says-same}
+use Rattle.cutting.specs.Piece.{Fits, Inside}
+use Rattle.cells.specs.Cells.{empty, place, cellOf, redrawn, Holds}
+use Rattle.cells.specs.Emptied.{emptiedWhere, fits, emptied, between, block, rowFrom}
+use Rattle.cells.proofs.Places.{place-above}
+use Rattle.cells.proofs.Redrawn.{redrawn-length, redrawn-cell, redrawn-beyond, is-redrawn, redrawn-same, redrawn-keeps, store-same, store-other, store-beyond}
+
+-- What a cell holds afterwards, by whether it is struck.
+abbrev left : ℕ → List ℕ → ℕ → ℕ → Bool → ℕ
+left a t x y struck = cond struck empty (cellOf a t x y)
+
+pub emptiedWhere-length : (a b : ℕ) (r : ℕ → ℕ → Bool) (t : List ℕ) → length (emptiedWhere a b r t) ≡ length t
+unfolding emptiedWhere
+emptiedWhere-length a b r t = redrawn-length a b _ t
+
+pub emptiedWhere-cell : {x y a b : ℕ} (r : ℕ → ℕ → Bool) (t : List ℕ) → a * b ≤ length t → Inside x y a b → cellOf a (emptiedWhere a b r t) x y ≡ cond (r x y) empty (cellOf a t x y)
+unfolding emptiedWhere
+emptiedWhere-cell r t room i = redrawn-cell _ t room i
+
+pub emptiedWhere-beyond : (a b : ℕ) (r : ℕ → ℕ → Bool) (t : List ℕ) (k : ℕ) → a * b ≤ k → getD (emptiedWhere a b r t) k empty ≡ getD t k empty
+unfolding emptiedWhere
+emptiedWhere-beyond a b r t k h = redrawn-beyond a b _ t k h
+
+pub is-emptiedWhere : (a b : ℕ) (r : ℕ → ℕ → Bool) (t t' : List ℕ) → length t' ≡ length t → ((x y : ℕ) → Inside x y a b → cellOf a t' x y ≡ cond (r x y) empty (cellOf a t x y)) → ((k : ℕ) → a * b ≤ k → getD t' k empty ≡ getD t k empty) → t' ≡ emptiedWhere a b r t
+unfolding emptiedWhere
+is-emptiedWhere a b r t t' = is-redrawn a b _ t t'
+
+-- Only what is said of the cells of the sheet counts.
+pub emptiedWhere-same : (a b : ℕ) (r s : ℕ → ℕ → Bool) (t : List ℕ) → ((x y : ℕ) → Inside x y a b → r x y ≡ s x y) → emptiedWhere a b r t ≡ emptiedWhere a b s t
+unfolding emptiedWhere
+emptiedWhere-same a b r s t same = redrawn-same a b _ _ t (λ x y i. ap (left a t x y) (same x y i))
+
+pub emptiedWhere-none : (a b : ℕ) (r : ℕ → ℕ → Bool) (t : List ℕ) → ((x y : ℕ) → Inside x y a b → r x y ≡ false) → emptiedWhere a b r t ≡ t
+unfolding emptiedWhere
+emptiedWhere-none a b r t none = redrawn-same a b _ (cellOf a t) t (λ x y i. ap (left a t x y) (none x y i)) ∙ redrawn-keeps a b t
+
+-- "where the old size or the new size .. fits": emptying twice empties where either is struck.
+pub emptiedWhere-twice : (a b : ℕ) (r s : ℕ → ℕ → Bool) (t : List ℕ) → a * b ≤ length t → emptiedWhere a b s (emptiedWhere a b r t) ≡ emptiedWhere a b (λ x y. r x y || s x y) t
+emptiedWhere-twice a b r s t room =
+    let first : List ℕ = emptiedWhere a b r t in
+    let long : length first ≡ length t = emptiedWhere-length a b r t in
+    let whole : a * b ≤ length first = omega arith in
+    is-emptiedWhere a b (λ x y. r x y || s x y) t (emptiedWhere a b s first) (emptiedWhere-length a b s first ∙ long)
+    (λ x y i. emptiedWhere-cell s first whole i ∙ (ap (cond (s x y) empty) (emptiedWhere-cell r t room i) ∙ either (r x y) (s x y) (cellOf a t x y)))
+    (λ k h. emptiedWhere-beyond a b s first k h ∙ emptiedWhere-beyond a b r t k h)
+  where
+    either : (c d : Bool) (v : ℕ) → cond d empty (cond c empty v) ≡ cond (c || d) empty v
+    either true true v = refl
+    either true false v = refl
+    either false true v = refl
+    either false false v = refl
+
+-- Nothing struck above row y: the rows above need not be looked at.
+pub emptiedWhere-lower : (a b y : ℕ) (r : ℕ → ℕ → Bool) (t : List ℕ) → y ≤ b → a * b ≤ length t → ((u w : ℕ) → y < w → r u w ≡ false) → emptiedWhere a y r t ≡ emptiedWhere a b r t
+unfolding cellOf
+emptiedWhere-lower a b y r t low room none =
+    let less : a * y ≤ a * b = mul-le-mul-left a low in
+    is-emptiedWhere a b r t (emptiedWhere a y r t) (emptiedWhere-length a y r t)
+    (λ u w i. ⊎-elim
+    (λ h. emptiedWhere-cell r t (omega arith) (omega arith))
+    (λ h. emptiedWhere-beyond a y r t (place a u w) (place-above y i h) ∙ sym (ap (left a t u w) (none u w h)))
+    (le-or-lt w y))
+    (λ k h. emptiedWhere-beyond a y r t k (omega arith))
+
+pub fits-says : (p q x y : ℕ) → Says (fits p q x y) (Fits p q x y)
+unfolding fits
+fits-says p q x y = says-iff (λ h. omega arith, λ h. omega arith) (says-and (says-le p x) (says-le q y))
+
+pub emptied-length : (a b p q : ℕ) (t : List ℕ) → length (emptied a b p q t) ≡ length t
+unfolding emptied
+emptied-length a b p q t = emptiedWhere-length a b (fits p q) t
+
+-- "Each empties exactly the cells (x, y) where the .. size .. fits"
+pub emptied-fitting : {p q x y a b : ℕ} (t : List ℕ) → a * b ≤ length t → Inside x y a b → Fits p q x y → cellOf a (emptied a b p q t) x y ≡ empty
+unfolding emptied
+emptied-fitting {p} {q} {x} {y} {a} t room i f = emptiedWhere-cell (fits p q) t room i ∙ ap (left a t x y) (fits-says p q x y .found f)
+
+-- "All other cells keep their number."
+pub emptied-other : {x y a b : ℕ} (p q : ℕ) (t : List ℕ) → a * b ≤ length t → Inside x y a b → (Fits p q x y → ⊥) → cellOf a (emptied a b p q t) x y ≡ cellOf a t x y
+unfolding emptied
+emptied-other {x} {y} {a} p q t room i f = emptiedWhere-cell (fits p q) t room i ∙ ap (left a t x y) (says-no (fits-says p q x y) f)
+
+pub emptied-beyond : (a b p q : ℕ) (t : List ℕ) (k : ℕ) → a * b ≤ k → getD (emptied a b p q t) k empty ≡ getD t k empty
+unfolding emptied
+emptied-beyond a b p q t k h = emptiedWhere-beyond a b (fits p q) t k h
+
+-- "where the old size or the new size .. fits"
+pub emptied-twice : (a b p q p' q' : ℕ) (t : List ℕ) → a * b ≤ length t → emptied a b p' q' (emptied a b p q t) ≡ emptiedWhere a b (λ x y. fits p q x y || fits p' q' x y) t
+unfolding emptied
+emptied-twice a b p q p' q' t room = emptiedWhere-twice a b (fits p q) (fits p' q') t room

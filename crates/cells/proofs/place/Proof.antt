@@ -1,0 +1,26 @@
+-- `cells::place` is the place of document 01, and nothing overflows within 240 by 240.
+use native.Mathlib.Omega.{arith}
+use borrow.Author.Needs.{needs}
+use Rattle.cells.specs.Cells.{place}
+use Rattle.cells.proofs.Places.{rows-fit}
+use Rattle.cells.proofs.place.Statement.{statement}
+use Rattle.cells.proofs.place.Tie as tie
+
+sub-result : tie.Need-sub-result
+sub-result c = search needs
+
+mul-result : tie.Need-mul-result
+mul-result c = omega (arith, rows-fit (c .args .a) (c .args .y) (omega arith) (omega arith))
+
+sub-result-2 : tie.Need-sub-result-2
+sub-result-2 c = search needs
+
+add-result : tie.Need-add-result
+add-result c = omega (arith, rows-fit (c .args .a) (c .args .y) (omega arith) (omega arith))
+
+returns : tie.Need-returns
+unfolding place
+returns c = search needs
+
+pub place-spec : {M : Type 1} → statement M
+place-spec = tie.close (tie.spec sub-result mul-result sub-result-2 add-result returns)

@@ -1,0 +1,27 @@
+-- `cells::store` writes the cell's place.
+use native.Mathlib.Omega.{arith}
+use borrow.Author.Needs.{needs}
+use Rattle.cells.proofs.Places.{place-below}
+use Rattle.cells.proofs.store.Statement.{statement}
+use Rattle.cells.proofs.store.Tie as tie
+use Rattle.cells.proofs.store.Reads as reads
+use Rattle.cells.proofs.store.Lts as lts
+use Rattle.cells.proofs.place.Reads as place-reads
+
+place-requires : tie.Need-place-requires
+place-requires c κs = search needs
+
+mul-t : tie.Need-mul-t
+mul-t c = omega (arith, place-below (c .before .before .pre .1))
+
+slice-write-t : tie.Need-slice-write-t
+slice-write-t c = omega (arith, place-below (c .before .before .pre .1))
+
+same-length : tie.Need-same-length
+same-length c = search needs
+
+returns : tie.Need-returns
+returns c = cc
+
+pub store-spec : {M : Type 1} → statement M
+store-spec = tie.close (tie.spec place-requires mul-t slice-write-t same-length returns)

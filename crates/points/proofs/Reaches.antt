@@ -16,15 +16,6 @@ use Rattle.laws.proofs.Order.{le-or-lt}
 use Rattle.cutting.specs.Points.{Sum, one, more}
 use Rattle.points.specs.Marks.{Size, makes, someMakes, reachesUpTo, reaches}
 
--- A size makes c from what is made up to c: two tests that agree there are one.
-pub makes-same : (made other : ℕ → Bool) (s c : ℕ) → ((m : ℕ) → m ≤ c → made m ≡ other m) → makes made s c ≡ makes other s c
-unfolding makes
-makes-same made other s c h = ap (λ (b : Bool). eqb s c || (ltb s c && b)) (h (c - s) (omega arith))
-
-pub someMakes-same : (made other : ℕ → Bool) (size : ℕ → ℕ) (n c : ℕ) → ((m : ℕ) → m ≤ c → made m ≡ other m) → someMakes made size n c ≡ someMakes other size n c
-unfolding someMakes
-someMakes-same made other size n c h = anyBelow-same _ _ n (λ k b. makes-same made other (size k) c h)
-
 -- A smaller size asks for what it leaves of c, and any other is c or makes nothing.
 pub makes-smaller : (made : ℕ → Bool) (s c : ℕ) → s < c → makes made s c ≡ made (c - s)
 unfolding makes
@@ -38,7 +29,16 @@ makes-alone made s c h = rw (says-no (says-lt s c) (λ l. omega arith)) (or-fals
     or-false true = refl
     or-false false = refl
 
--- The same of a size that was read, by an answer that was given.
+-- A size makes c from what is made up to c: two tests that agree there are one.
+pub makes-same : (made other : ℕ → Bool) (s c : ℕ) → ((m : ℕ) → m ≤ c → made m ≡ other m) → makes made s c ≡ makes other s c
+unfolding makes
+makes-same made other s c h = ap (λ (b : Bool). eqb s c || (ltb s c && b)) (h (c - s) (omega arith))
+
+pub someMakes-same : (made other : ℕ → Bool) (size : ℕ → ℕ) (n c : ℕ) → ((m : ℕ) → m ≤ c → made m ≡ other m) → someMakes made size n c ≡ someMakes other size n c
+unfolding someMakes
+someMakes-same made other size n c h = anyBelow-same _ _ n (λ k b. makes-same made other (size k) c h)
+
+-- What a size makes, known by an answer that was given of it when it was read.
 pub makes-read : (made : ℕ → Bool) (c : ℕ) {s read : ℕ} {answer b : Bool} → read ≡ s → answer ≡ makes made read c → answer ≡ b → makes made s c ≡ b
 makes-read made c e h t = cc
 

@@ -3,3 +3,4 @@ pub mod Places
 pub mod Redrawn
 pub mod Emptied
 pub mod Sweep
+pub mod Box

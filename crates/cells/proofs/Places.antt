@@ -15,11 +15,14 @@ place-below {x} {y} {a} {b} i =
     let h : suc (y - 1) * a ≤ b * a = mul-le-mul-right a (omega arith) in
     omega (arith, suc-mul (y - 1) a, mul-comm a b)
 
--- No place within the largest sheet overflows.
+-- Nothing within the largest sheet overflows: an area, and the rows below a cell.
+pub area-fits : {u w : ℕ} → u ≤ sideMax → w ≤ sideMax → u * w ≤ sideMax * sideMax
+area-fits h k = mul-le-mul h k
+
 pub rows-fit : (a y : ℕ) → a ≤ sideMax → y ≤ sideMax → (y - 1) * a ≤ sideMax * sideMax
 rows-fit a y h k =
     let low : y - 1 ≤ sideMax = omega arith in
-    mul-le-mul low h
+    area-fits low h
 
 -- The rows above a sheet a by y lie beyond it.
 pub place-above : {u w a b : ℕ} (y : ℕ) → Inside u w a b → y < w → a * y ≤ place a u w

@@ -1,6 +1,6 @@
 -- Tests over a box: the cells (u, w) "with u ≤ x and w ≤ y".
 use Prim.Native.Nat.{ℕ, suc, _*_}
-use mathlib.Core.Bool.{Bool, cond, not, _&&_}
+use mathlib.Core.Bool.{Bool, true, false, cond, not, _&&_}
 use mathlib.Core.List.{List}
 use lib.Dec.{ltb, eqb}
 use Rattle.laws.specs.Below.{anyBelow, sumBelow}
@@ -15,9 +15,13 @@ anyInRow x w test = anyBelow (λ i. test (suc i) w) x
 unfoldable pub anyInBox : ℕ → ℕ → (ℕ → ℕ → Bool) → Bool
 anyInBox x y test = anyBelow (λ j. anyInRow x (suc j) test) y
 
+-- A cell counts 1 where the test is true, else 0.
+abbrev pub counted : Bool → ℕ
+counted c = cond c 1 0
+
 -- Of how many cells of row w, in columns 1 to x, is the test true?
 unfoldable pub countInRow : ℕ → ℕ → (ℕ → ℕ → Bool) → ℕ
-countInRow x w test = sumBelow (λ i. cond (test (suc i) w) 1 0) x
+countInRow x w test = sumBelow (λ i. counted (test (suc i) w)) x
 
 -- Of how many cells of the box is the test true?
 unfoldable pub countInBox : ℕ → ℕ → (ℕ → ℕ → Bool) → ℕ
@@ -34,3 +38,8 @@ tooMuch v u w = not (eqb v empty) && ltb (u * w * valueMax) v
 -- "a non-empty cell (u, w) in the box exceeds u·w·65,535"
 unfoldable pub exceeds : ℕ → List ℕ → ℕ → ℕ → Bool
 exceeds a t u w = tooMuch (cellOf a t u w) u w
+
+-- What a walk over a box looks for: an empty cell, or else one that exceeds.
+unfoldable pub sought : Bool → ℕ → List ℕ → ℕ → ℕ → Bool
+sought true = isEmpty
+sought false = exceeds

@@ -5,6 +5,7 @@ ghost use lib.ListN.{set};
 ghost use Rattle.cutting.specs.Limits.{sideMax};
 ghost use Rattle.cutting.specs.Piece.{Inside};
 ghost use Rattle.cells.specs.Cells.{Holds, cellOf, place as placeOf};
+ghost use Rattle.cells.specs.Box.{anyInRow, anyInBox, isEmpty, tooMuch, exceeds, sought};
 ghost use Rattle.cells.specs.Emptied.{emptiedWhere, emptied, rowFrom};
 
 // A cell that has not been worked out.
@@ -63,4 +64,81 @@ fn empty_row(t: &mut [u32], a: usize, p: usize, y: usize)
         store(t, a, x, y, EMPTY);
         x += 1;
     }
+}
+
+// The largest value of a piece: what a unit of area earns at most.
+const VALUE_MAX: usize = 65_535;
+
+// Is a cell of the box x by y empty?
+pub fn has_empty(t: &[u32], a: usize, x: usize, y: usize) -> bool
+    requires { ⌜ Holds a y (now t) ⌝ }
+    requires { ⌜ x ≤ a ⌝ }
+    ensures { λ r. ⌜ r ≡ anyInBox x y (isEmpty a (now (t .entry))) ⌝ }
+{
+    box_has(t, a, x, y, true)
+}
+
+// Does a cell of the box x by y hold more than its area can earn?
+pub fn has_exceeding(t: &[u32], a: usize, x: usize, y: usize) -> bool
+    requires { ⌜ Holds a y (now t) ⌝ }
+    requires { ⌜ x ≤ a ⌝ }
+    ensures { λ r. ⌜ r ≡ anyInBox x y (exceeds a (now (t .entry))) ⌝ }
+{
+    box_has(t, a, x, y, false)
+}
+
+// Is there a sought cell in the box x by y: an empty one, or else one that exceeds?
+fn box_has(t: &[u32], a: usize, x: usize, y: usize, empty: bool) -> bool
+    requires { ⌜ Holds a y (now t) ⌝ }
+    requires { ⌜ x ≤ a ⌝ }
+    ensures { λ r. ⌜ r ≡ anyInBox x y (sought empty a (now (t .entry))) ⌝ }
+{
+    let mut j = 0;
+    while j < y {
+        if row_has(t, a, x, j + 1, empty) {
+            return true;
+        }
+        j += 1;
+    }
+    false
+}
+
+// The same for columns 1 to x of row w.
+fn row_has(t: &[u32], a: usize, x: usize, w: usize, empty: bool) -> bool
+    requires { ⌜ Holds a w (now t) ⌝ }
+    requires { ⌜ x ≤ a ⌝ }
+    ensures { λ r. ⌜ r ≡ anyInRow x w (sought empty a (now (t .entry))) ⌝ }
+{
+    let mut i = 0;
+    while i < x {
+        if is_sought(t, a, i + 1, w, empty) {
+            return true;
+        }
+        i += 1;
+    }
+    false
+}
+
+// The same for cell (u, w).
+fn is_sought(t: &[u32], a: usize, u: usize, w: usize, empty: bool) -> bool
+    requires { ⌜ Holds a w (now t) ⌝ }
+    requires { ⌜ Inside u w a w ⌝ }
+    ensures { λ r. ⌜ r ≡ sought empty a (now (t .entry)) u w ⌝ }
+{
+    let value = cell(t, a, u, w);
+    if empty {
+        return value == EMPTY;
+    }
+    too_much(value, u, w)
+}
+
+// Does this number of a cell (u, w) exceed what the area can earn? An empty cell's does not.
+fn too_much(value: u32, u: usize, w: usize) -> bool
+    requires { ⌜ Inside u w sideMax sideMax ⌝ }
+    ensures { λ r. ⌜ r ≡ tooMuch value u w ⌝ }
+{
+    if value == EMPTY {
+        return false;
+    }
+    u * w * VALUE_MAX < value as usize
 }

@@ -5,9 +5,6 @@ use Rattle.cells.proofs.Places.{place-below}
 use Rattle.cells.proofs.Redrawn.{read-cell}
 use Rattle.cells.proofs.cell.Statement.{statement}
 use Rattle.cells.proofs.cell.Tie as tie
-use Rattle.cells.proofs.cell.Reads as reads
-use Rattle.cells.proofs.cell.Lts as lts
-use Rattle.cells.proofs.place.Reads as place-reads
 
 place-requires : tie.Need-place-requires
 place-requires c κs = search needs

@@ -8,9 +8,6 @@ use Rattle.cells.specs.Emptied.{emptiedWhere, block}
 use Rattle.cells.proofs.Sweep.{sweep-none, row-more, row-end}
 use Rattle.cells.proofs.empty_row.Statement.{statement}
 use Rattle.cells.proofs.empty_row.Tie as tie
-use Rattle.cells.proofs.empty_row.Reads as reads
-use Rattle.cells.proofs.empty_row.Lts as lts
-use Rattle.cells.proofs.store.Reads as store-reads
 
 abbrev Inv-loop : tie.InvT-loop
 Inv-loop t₀ a p y x₀ t x = (p ≤ x) × (length t ≡ length t₀) × (t ≡ emptiedWhere a y (block p x y (y + 1)) t₀)

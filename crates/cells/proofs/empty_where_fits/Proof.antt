@@ -9,9 +9,6 @@ use Rattle.cells.proofs.Places.{holds-lower}
 use Rattle.cells.proofs.Sweep.{sweep-none, rows-more, rows-end}
 use Rattle.cells.proofs.empty_where_fits.Statement.{statement}
 use Rattle.cells.proofs.empty_where_fits.Tie as tie
-use Rattle.cells.proofs.empty_where_fits.Reads as reads
-use Rattle.cells.proofs.empty_where_fits.Lts as lts
-use Rattle.cells.proofs.empty_row.Reads as empty-row-reads
 
 abbrev Inv-loop : tie.InvT-loop
 Inv-loop t₀ a b p q y₀ t y = (q ≤ y) × (length t ≡ length t₀) × (t ≡ emptiedWhere a b (block p (a + 1) q y) t₀)

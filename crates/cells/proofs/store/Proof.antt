@@ -4,9 +4,6 @@ use borrow.Author.Needs.{needs}
 use Rattle.cells.proofs.Places.{place-below}
 use Rattle.cells.proofs.store.Statement.{statement}
 use Rattle.cells.proofs.store.Tie as tie
-use Rattle.cells.proofs.store.Reads as reads
-use Rattle.cells.proofs.store.Lts as lts
-use Rattle.cells.proofs.place.Reads as place-reads
 
 place-requires : tie.Need-place-requires
 place-requires c κs = search needs

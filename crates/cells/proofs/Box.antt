@@ -1,0 +1,159 @@
+-- The laws of the tests over a box: what they say of each cell, and one row or one cell more for the loops.
+use Prim.Native.Nat.{ℕ, suc, _+_, _-_, _*_, _≤_, _<_}
+use mathlib.Core.Bool.{Bool, true, false, not, _&&_, _||_}
+use mathlib.Core.Path.{_≡_, refl, sym, ap, ap₂, _∙_}
+use mathlib.Core.List.{List}
+use native.Mathlib.Omega.{arith}
+use native.Mathlib.Numerals.{add-one}
+use native.Mathlib.Nat.{mul-comm}
+use lib.Dec.{ltb, eqb}
+use borrow.Author.Tests.{eq-eqb, ne-eqb}
+use Rattle.laws.specs.Says.{Says}
+use Rattle.laws.specs.Below.{anyBelow, sumBelow}
+use Rattle.laws.proofs.Says.{says-and, says-not, says-lt, says-eq, says-iff, says-false}
+use Rattle.laws.proofs.Below.{anyBelow-none, anyBelow-more, anyBelow-says, anyBelow-same, sumBelow-none, sumBelow-more, sumBelow-same}
+use Rattle.laws.proofs.Sums.{sumBelow-within, sumBelow-part, sumBelow-zero}
+use Rattle.cutting.specs.Limits.{valueMax}
+use Rattle.cutting.specs.Piece.{Inside}
+use Rattle.cells.specs.Cells.{empty, cellOf}
+use Rattle.cells.specs.Box.{anyInRow, anyInBox, counted, countInRow, countInBox, isEmpty, tooMuch, exceeds, sought}
+
+-- The tests of one cell.
+pub isEmpty-says : (a : ℕ) (t : List ℕ) (u w : ℕ) → Says (isEmpty a t u w) (cellOf a t u w ≡ empty)
+unfolding isEmpty
+isEmpty-says a t u w = says-eq (cellOf a t u w) empty
+
+pub exceeds-says : (a : ℕ) (t : List ℕ) (u w : ℕ) → Says (exceeds a t u w) ((cellOf a t u w ≡ empty → ⊥) × (u * w * valueMax < cellOf a t u w))
+unfolding exceeds tooMuch
+exceeds-says a t u w = says-and (says-not (says-eq (cellOf a t u w) empty)) (says-lt (u * w * valueMax) (cellOf a t u w))
+
+-- The same, as the code comes to them.
+pub tooMuch-empty : (v u w : ℕ) → v ≡ empty → false ≡ tooMuch v u w
+unfolding tooMuch
+tooMuch-empty v u w e = sym (ap (λ c. not c && ltb (u * w * valueMax) v) (eq-eqb v empty e))
+
+pub tooMuch-filled : (v u w : ℕ) → (v ≡ empty → ⊥) → ltb (u * w * valueMax) v ≡ tooMuch v u w
+unfolding tooMuch
+tooMuch-filled v u w e = sym (ap (λ c. not c && ltb (u * w * valueMax) v) (ne-eqb v empty e))
+
+pub sought-empty : {e : Bool} (a : ℕ) (t : List ℕ) (u w v : ℕ) → e ≡ true → v ≡ cellOf a t u w → eqb v empty ≡ sought e a t u w
+unfolding sought isEmpty
+sought-empty a t u w v e f = ap (λ k. eqb k empty) f ∙ sym (ap (λ c. sought c a t u w) e)
+
+pub sought-exceeding : {e r : Bool} (a : ℕ) (t : List ℕ) (u w v : ℕ) → e ≡ false → v ≡ cellOf a t u w → r ≡ tooMuch v u w → r ≡ sought e a t u w
+unfolding sought exceeds
+sought-exceeding a t u w v e f g = g ∙ (ap (λ k. tooMuch k u w) f ∙ sym (ap (λ c. sought c a t u w) e))
+
+-- Any: what it says.
+pub anyInRow-says : (x w : ℕ) (test : ℕ → ℕ → Bool) → Says (anyInRow x w test) ((u : ℕ) × (1 ≤ u) × (u ≤ x) × (test u w ≡ true))
+unfolding anyInRow
+anyInRow-says x w test =
+    says-iff (
+      λ s. (suc (s .0), omega arith, omega (arith, s .1), s .2),
+      λ s. (s .0 - 1, omega (arith, s .1, s .2), ap (λ u. test u w) (omega (arith, s .1)) ∙ s .3),
+    )
+    (anyBelow-says (λ i. test (suc i) w) x)
+
+pub anyInBox-says : (x y : ℕ) (test : ℕ → ℕ → Bool) → Says (anyInBox x y test) ((u : ℕ) × (w : ℕ) × Inside u w x y × (test u w ≡ true))
+unfolding anyInBox
+anyInBox-says x y test =
+    says-iff (
+      λ s. let r = anyInRow-says x (suc (s .0)) test .means (s .2) in (r .0, suc (s .0), omega (arith, r .1, r .2, s .1), r .3),
+      λ s. (s .1 - 1, omega (arith, s .2), anyInRow-says x (suc (s .1 - 1)) test .found (s .0, omega (arith, s .2), omega (arith, s .2), ap (test (s .0)) (omega (arith, s .2)) ∙ s .3)),
+    )
+    (anyBelow-says (λ j. anyInRow x (suc j) test) y)
+
+-- Cells of which both tests say the same.
+pub anyInBox-same : (x y : ℕ) (f g : ℕ → ℕ → Bool) → ((u w : ℕ) → Inside u w x y → f u w ≡ g u w) → anyInBox x y f ≡ anyInBox x y g
+unfolding anyInBox anyInRow
+anyInBox-same x y f g same =
+    anyBelow-same _ _ y (λ j h. anyBelow-same _ _ x (λ i k. same (suc i) (suc j) (omega arith)))
+
+pub countInBox-same : (x y : ℕ) (f g : ℕ → ℕ → Bool) → ((u w : ℕ) → Inside u w x y → f u w ≡ g u w) → countInBox x y f ≡ countInBox x y g
+unfolding countInBox countInRow
+countInBox-same x y f g same =
+    sumBelow-same _ _ y (λ j h. sumBelow-same _ _ x (λ i k. ap counted (same (suc i) (suc j) (omega arith))))
+
+-- A box of x by y has x·y cells.
+pub countInRow-bound : (x w : ℕ) (test : ℕ → ℕ → Bool) → countInRow x w test ≤ x
+unfolding countInRow
+countInRow-bound x w test = omega (arith, sumBelow-within (λ i. counted (test (suc i) w)) x 1 (λ i h. one (test (suc i) w)))
+  where
+    one : (c : Bool) → counted c ≤ 1
+    one true = omega arith
+    one false = omega arith
+
+pub countInBox-bound : (x y : ℕ) (test : ℕ → ℕ → Bool) → countInBox x y test ≤ x * y
+unfolding countInBox
+countInBox-bound x y test =
+    omega (arith, sumBelow-within (λ j. countInRow x (suc j) test) y x (λ j h. countInRow-bound x (suc j) test), mul-comm x y)
+
+-- The count is 0 exactly where there is no such cell.
+pub countInBox-zero : (x y : ℕ) (test : ℕ → ℕ → Bool) → anyInBox x y test ≡ false → countInBox x y test ≡ 0
+unfolding countInBox countInRow
+countInBox-zero x y test none =
+    sumBelow-zero _ y
+    (λ j h. sumBelow-zero _ x (λ i k. ap counted (untrue (suc i) (suc j) (omega arith) (test (suc i) (suc j)) refl)))
+  where
+    untrue : (u w : ℕ) → Inside u w x y → (c : Bool) → test u w ≡ c → test u w ≡ false
+    untrue u w i true e = absurd (says-false (anyInBox-says x y test) none (u, w, i, e))
+    untrue u w i false e = e
+
+pub countInBox-some : {u w x y : ℕ} (test : ℕ → ℕ → Bool) → Inside u w x y → test u w ≡ true → 1 ≤ countInBox x y test
+unfolding countInBox countInRow
+countInBox-some {u} {w} {x} {y} test i e =
+    let here : test (suc (u - 1)) (suc (w - 1)) ≡ true = ap₂ test (omega arith) (omega arith) ∙ e in
+    let row = sumBelow-part (λ j. sumBelow (λ i. counted (test (suc i) (suc j))) x) y (w - 1) (omega arith) in
+    let cell = sumBelow-part (λ i. counted (test (suc i) (suc (w - 1)))) x (u - 1) (omega arith) in
+    omega (arith, ap counted here)
+
+-- One more, as the loops go, from 0 with the code's i + 1.
+pub anyInRow-none : (w : ℕ) (test : ℕ → ℕ → Bool) → anyInRow 0 w test ≡ false
+unfolding anyInRow
+anyInRow-none w test = anyBelow-none _
+
+pub anyInRow-more : (i w : ℕ) (test : ℕ → ℕ → Bool) → anyInRow i w test ≡ false → test (i + 1) w ≡ false → anyInRow (i + 1) w test ≡ false
+unfolding anyInRow
+anyInRow-more i w test e f =
+    anyBelow-more (λ k. test (suc k) w) i ∙ ap₂ _||_ e (ap (λ u. test u w) (sym (add-one i)) ∙ f)
+
+pub anyInRow-found : {i x : ℕ} (w : ℕ) (test : ℕ → ℕ → Bool) → i < x → test (i + 1) w ≡ true → anyInRow x w test ≡ true
+anyInRow-found {i} {x} w test h e = anyInRow-says x w test .found (i + 1, omega arith, omega arith, e)
+
+pub anyInRow-end : {i x : ℕ} (w : ℕ) (test : ℕ → ℕ → Bool) → i ≡ x → anyInRow i w test ≡ false → false ≡ anyInRow x w test
+anyInRow-end w test e f = sym f ∙ ap (λ k. anyInRow k w test) e
+
+pub anyInBox-none : (x : ℕ) (test : ℕ → ℕ → Bool) → anyInBox x 0 test ≡ false
+unfolding anyInBox
+anyInBox-none x test = anyBelow-none _
+
+pub anyInBox-more : (x j : ℕ) (test : ℕ → ℕ → Bool) → anyInBox x j test ≡ false → anyInRow x (j + 1) test ≡ false → anyInBox x (j + 1) test ≡ false
+unfolding anyInBox
+anyInBox-more x j test e f =
+    anyBelow-more (λ k. anyInRow x (suc k) test) j ∙ ap₂ _||_ e (ap (λ w. anyInRow x w test) (sym (add-one j)) ∙ f)
+
+pub anyInBox-found : (x : ℕ) {j y : ℕ} (test : ℕ → ℕ → Bool) → j < y → anyInRow x (j + 1) test ≡ true → anyInBox x y test ≡ true
+unfolding anyInBox
+anyInBox-found x {j} {y} test h e =
+    anyBelow-says (λ k. anyInRow x (suc k) test) y .found (j, h, ap (λ w. anyInRow x w test) (sym (add-one j)) ∙ e)
+
+pub anyInBox-end : {j y : ℕ} (x : ℕ) (test : ℕ → ℕ → Bool) → j ≡ y → anyInBox x j test ≡ false → false ≡ anyInBox x y test
+anyInBox-end x test e f = sym f ∙ ap (λ k. anyInBox x k test) e
+
+pub countInRow-none : (w : ℕ) (test : ℕ → ℕ → Bool) → countInRow 0 w test ≡ 0
+unfolding countInRow
+countInRow-none w test = sumBelow-none _
+
+pub countInRow-more : (i w : ℕ) (test : ℕ → ℕ → Bool) → countInRow (i + 1) w test ≡ countInRow i w test + counted (test (i + 1) w)
+unfolding countInRow
+countInRow-more i w test =
+    sumBelow-more (λ k. counted (test (suc k) w)) i ∙ ap (λ u. sumBelow (λ k. counted (test (suc k) w)) i + counted (test u w)) (sym (add-one i))
+
+pub countInBox-none : (x : ℕ) (test : ℕ → ℕ → Bool) → countInBox x 0 test ≡ 0
+unfolding countInBox
+countInBox-none x test = sumBelow-none _
+
+pub countInBox-more : (x j : ℕ) (test : ℕ → ℕ → Bool) → countInBox x (j + 1) test ≡ countInBox x j test + countInRow x (j + 1) test
+unfolding countInBox
+countInBox-more x j test =
+    sumBelow-more (λ k. countInRow x (suc k) test) j ∙ ap (λ w. sumBelow (λ k. countInRow x (suc k) test) j + countInRow x w test) (sym (add-one j))

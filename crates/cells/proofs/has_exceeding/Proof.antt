@@ -1,0 +1,15 @@
+-- `cells::has_exceeding` is box_has with what it looks for.
+use borrow.Author.Needs.{needs}
+use Rattle.cells.specs.Box.{sought}
+use Rattle.cells.proofs.has_exceeding.Statement.{statement}
+use Rattle.cells.proofs.has_exceeding.Tie as tie
+
+box-has-requires : tie.Need-box-has-requires
+box-has-requires c κs = search needs
+
+returns : tie.Need-returns
+unfolding sought
+returns c = c .box-has .ensures
+
+pub has-exceeding-spec : {M : Type 1} → statement M
+has-exceeding-spec = tie.close (tie.spec box-has-requires returns)

@@ -1,0 +1,55 @@
+-- `cells::row_has` finds a sought cell in row w. The loop's invariant: there is none in the first i columns.
+use Prim.Native.Nat.{_-_, _≤_}
+use mathlib.Core.Bool.{false}
+use mathlib.Core.Path.{_≡_, sym, _∙_}
+use native.Mathlib.Omega.{arith}
+use Rattle.cells.specs.Box.{anyInRow, sought}
+use Rattle.cells.proofs.Box.{anyInRow-none, anyInRow-more, anyInRow-found, anyInRow-end}
+use Rattle.cells.proofs.row_has.Statement.{statement}
+use Rattle.cells.proofs.row_has.Tie as tie
+
+abbrev Inv-loop : tie.InvT-loop
+Inv-loop t a x w empty i₀ i = (i ≤ x) × (anyInRow i w (sought empty a t) ≡ false)
+
+abbrev μ-loop : tie.MeasureT-loop
+μ-loop t a x w empty i₀ i = x - i
+
+loop-holds : tie.Need-loop-holds Inv-loop μ-loop
+loop-holds c = (omega arith, anyInRow-none _ _)
+
+add-is-sought : tie.Need-add-is-sought Inv-loop μ-loop
+add-is-sought c = omega arith
+
+is-sought-requires : tie.Need-is-sought-requires Inv-loop μ-loop
+is-sought-requires c κs = omega arith
+
+returns : tie.Need-returns Inv-loop μ-loop
+returns c = sym (anyInRow-found _ _ (c .before .before .loop-test .taken) (sym (c .before .is-sought .ensures) ∙ c .if1 .taken))
+
+add-i : tie.Need-add-i Inv-loop μ-loop
+add-i c = omega arith
+
+loop-less : tie.Need-loop-less Inv-loop μ-loop
+loop-less c = omega arith
+
+loop-again : tie.Need-loop-again Inv-loop μ-loop
+loop-again c =
+    (omega arith, anyInRow-more _ _ _ (c .before .before .before .loop .inv .1) (sym (c .before .is-sought .ensures) ∙ c .if1 .left))
+
+returns-2 : tie.Need-returns-2 Inv-loop μ-loop
+returns-2 c = anyInRow-end _ _ (omega arith) (c .before .loop .inv .1)
+
+pub row-has-spec : {M : Type 1} → statement M
+row-has-spec =
+    tie.close
+    (tie.spec
+    Inv-loop
+    μ-loop
+    loop-holds
+    add-is-sought
+    is-sought-requires
+    returns
+    add-i
+    loop-less
+    loop-again
+    returns-2)

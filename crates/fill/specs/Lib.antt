@@ -1,0 +1,3 @@
+-- The worth of a cell by the rule, and the filled table.
+pub mod Worth
+pub mod Filled

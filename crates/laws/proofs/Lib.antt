@@ -6,3 +6,5 @@ pub mod Below
 pub mod ByIndex
 pub mod Put
 pub mod Sums
+pub mod Filled
+pub mod Tests

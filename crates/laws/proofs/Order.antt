@@ -22,3 +22,13 @@ last-or-below h = eq-or-lt-of-le (le-of-suc-le-suc h)
 pub larger : (S : ℕ → Type 0) {m n : ℕ} → S m → S n → S (max m n)
 larger S {m} {n} s r =
     ⊎-elim (λ h. subst S (omega arith) s) (λ h. subst S (omega arith) r) (le-or-lt n m)
+
+pub eq-or-not : (m n : ℕ) → (m ≡ n) ⊎ (m ≡ n → ⊥)
+eq-or-not zero zero = inl (omega arith)
+eq-or-not zero (suc n) = inr (λ e. omega arith)
+eq-or-not (suc m) zero = inr (λ e. omega arith)
+eq-or-not (suc m) (suc n) = step (eq-or-not m n)
+  where
+    step : (m ≡ n) ⊎ (m ≡ n → ⊥) → (suc m ≡ suc n) ⊎ (suc m ≡ suc n → ⊥)
+    step (inl h) = inl (omega arith)
+    step (inr h) = inr (λ e. h (omega arith))

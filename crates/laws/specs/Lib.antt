@@ -4,3 +4,4 @@ pub mod Says
 pub mod Below
 pub mod ByIndex
 pub mod Put
+pub mod Filled

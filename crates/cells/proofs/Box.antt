@@ -9,7 +9,7 @@ use native.Mathlib.Nat.{mul-comm}
 use lib.Dec.{ltb, eqb}
 use borrow.Author.Tests.{eq-eqb, ne-eqb}
 use Rattle.laws.specs.Says.{Says}
-use Rattle.laws.specs.Below.{anyBelow, sumBelow}
+use Rattle.laws.specs.Below.{sumBelow}
 use Rattle.laws.proofs.Says.{says-and, says-not, says-lt, says-eq, says-iff, says-false}
 use Rattle.laws.proofs.Below.{anyBelow-none, anyBelow-more, anyBelow-says, anyBelow-same, sumBelow-none, sumBelow-more, sumBelow-same}
 use Rattle.laws.proofs.Sums.{sumBelow-within, sumBelow-part, sumBelow-zero}

@@ -1,20 +1,20 @@
 -- The laws of emptying, for the desk and for the two loops.
-use Prim.Native.Nat.{ℕ, zero, suc, _+_, _*_, _≤_, _<_}
-use mathlib.Core.Bool.{Bool, true, false, cond, _&&_, _||_}
-use mathlib.Core.Path.{_≡_, refl, sym, ap, ap₂, _∙_}
+use Prim.Native.Nat.{ℕ, _*_, _≤_, _<_}
+use mathlib.Core.Bool.{Bool, true, false, cond, _||_}
+use mathlib.Core.Path.{_≡_, refl, sym, ap, _∙_}
 use mathlib.Core.List.{List}
-use mathlib.Core.Logic.{_⊎_, inl, inr, ⊎-elim}
+use mathlib.Core.Logic.{⊎-elim}
 use native.Mathlib.Omega.{arith}
 use native.Mathlib.Nat.{mul-le-mul-left}
-use lib.ListN.{length, getD, set, length-set}
+use lib.ListN.{length, getD}
 use Rattle.laws.specs.Says.{Says}
 use Rattle.laws.proofs.Order.{le-or-lt}
-use Rattle.laws.proofs.Says.{says-and, says-or, says-le, says-lt, says-iff, says-no, says-same}
+use Rattle.laws.proofs.Says.{says-and, says-le, says-iff, says-no}
 use Rattle.cutting.specs.Piece.{Fits, Inside}
-use Rattle.cells.specs.Cells.{empty, place, cellOf, redrawn, Holds}
-use Rattle.cells.specs.Emptied.{emptiedWhere, fits, emptied, between, block, rowFrom}
+use Rattle.cells.specs.Cells.{empty, place, cellOf}
+use Rattle.cells.specs.Emptied.{emptiedWhere, fits, emptied}
 use Rattle.cells.proofs.Places.{place-above}
-use Rattle.cells.proofs.Redrawn.{redrawn-length, redrawn-cell, redrawn-beyond, is-redrawn, redrawn-same, redrawn-keeps, store-same, store-other, store-beyond}
+use Rattle.cells.proofs.Redrawn.{redrawn-length, redrawn-cell, redrawn-beyond, is-redrawn, redrawn-same, redrawn-keeps}
 
 -- What a cell holds afterwards, by whether it is struck.
 abbrev left : ℕ → List ℕ → ℕ → ℕ → Bool → ℕ
@@ -85,6 +85,10 @@ emptied-length a b p q t = emptiedWhere-length a b (fits p q) t
 pub emptied-fitting : {p q x y a b : ℕ} (t : List ℕ) → a * b ≤ length t → Inside x y a b → Fits p q x y → cellOf a (emptied a b p q t) x y ≡ empty
 unfolding emptied
 emptied-fitting {p} {q} {x} {y} {a} t room i f = emptiedWhere-cell (fits p q) t room i ∙ ap (left a t x y) (fits-says p q x y .found f)
+
+-- "Open a, b: empties the first a·b cells": every cell has room for 1 by 1.
+pub emptied-whole : {x y a b : ℕ} (t : List ℕ) → a * b ≤ length t → Inside x y a b → cellOf a (emptied a b 1 1 t) x y ≡ empty
+emptied-whole t room i = emptied-fitting t room i (omega arith)
 
 -- "All other cells keep their number."
 pub emptied-other : {x y a b : ℕ} (p q : ℕ) (t : List ℕ) → a * b ≤ length t → Inside x y a b → (Fits p q x y → ⊥) → cellOf a (emptied a b p q t) x y ≡ cellOf a t x y

@@ -1,12 +1,11 @@
 -- Where cells lie: all division stands here. A cell inside the sheet has a place in the row, and each place its cell.
 use Prim.Native.Nat.{ℕ, zero, suc, _+_, _-_, _*_, _/_, _%_, _≤_, _<_}
-use mathlib.Core.Path.{_≡_, refl, sym, ap, ap₂, _∙_}
+use mathlib.Core.Path.{_≡_, sym, ap, ap₂, _∙_}
 use native.Mathlib.Omega.{arith}
 use native.Mathlib.Nat.{suc-mul, mul-comm, zero-mul, mul-le-mul, mul-le-mul-left, mul-le-mul-right, mod-lt, mod-eq-of-lt, div-eq-of-lt, mul-add-mod-self-right, mul-add-div-right, div-add-mod', div-lt-iff-lt-mul}
 use Rattle.cutting.specs.Limits.{sideMax}
 use Rattle.cutting.specs.Piece.{Inside}
 use mathlib.Core.List.{List}
-use lib.ListN.{length}
 use Rattle.cells.specs.Cells.{place, Holds}
 
 pub place-below : {x y a b : ℕ} → Inside x y a b → place a x y < a * b

@@ -1,16 +1,15 @@
 -- The laws of redrawn and of cellOf.
 use Prim.Native.Nat.{ℕ, zero, suc, _+_, _*_, _/_, _%_, _≤_, _<_}
-use mathlib.Core.Bool.{Bool, true, false, cond}
+use mathlib.Core.Bool.{Bool, true, cond}
 use mathlib.Core.Path.{_≡_, refl, sym, ap, ap₂, _∙_}
 use mathlib.Core.List.{List, [], _∷_}
-use mathlib.Core.Logic.{_⊎_, inl, inr, ⊎-elim}
+use mathlib.Core.Logic.{⊎-elim}
 use native.Mathlib.Omega.{arith}
-use lib.ListN.{length, getD, set, length-set, List·getD-eq-default}
+use lib.ListN.{length, getD, set, List·getD-eq-default}
 use lib.Seq.{getD-set-same, getD-set-other}
 use lib.Dec.{ltb}
 use borrow.Author.Tests.{lt-ltb, le-ltb}
 use Rattle.laws.proofs.Order.{le-or-lt}
-use Rattle.laws.specs.ByIndex.{byIndex}
 use Rattle.laws.proofs.ByIndex.{byIndex-length, byIndex-at, is-byIndex, byIndex-same}
 use Rattle.cutting.specs.Piece.{Inside}
 use Rattle.cells.specs.Cells.{empty, place, cellOf, redrawn}

@@ -1,5 +1,5 @@
 -- The two loops of emptying: a row from column p on, and the rows from q on. Each has three laws: start, one more, end.
-use Prim.Native.Nat.{ℕ, suc, _+_, _*_, _≤_, _<_}
+use Prim.Native.Nat.{ℕ, _+_, _*_, _≤_, _<_}
 use mathlib.Core.Bool.{Bool, true, false, cond, _&&_, _||_}
 use mathlib.Core.Path.{_≡_, refl, sym, ap, ap₂, _∙_}
 use mathlib.Core.List.{List}
@@ -9,9 +9,9 @@ use lib.ListN.{length, set, length-set}
 use Rattle.laws.specs.Says.{Says}
 use Rattle.laws.proofs.Order.{le-or-lt}
 use Rattle.laws.proofs.Says.{says-and, says-or, says-le, says-lt, says-iff, says-no, says-false, says-same}
-use Rattle.cutting.specs.Piece.{Fits, Inside}
+use Rattle.cutting.specs.Piece.{Inside}
 use Rattle.cells.specs.Cells.{empty, place, cellOf}
-use Rattle.cells.specs.Emptied.{emptiedWhere, fits, emptied, between, block, rowFrom}
+use Rattle.cells.specs.Emptied.{emptiedWhere, emptied, between, block, rowFrom}
 use Rattle.cells.proofs.Redrawn.{store-same, store-other, store-beyond}
 use Rattle.cells.proofs.Emptied.{emptiedWhere-length, is-emptiedWhere, emptiedWhere-same, emptiedWhere-none, emptiedWhere-twice, emptiedWhere-lower, fits-says}
 

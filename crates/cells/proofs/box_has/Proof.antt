@@ -10,13 +10,13 @@ use Rattle.cells.proofs.box_has.Statement.{statement}
 use Rattle.cells.proofs.box_has.Tie as tie
 
 abbrev Inv-loop : tie.InvT-loop
-Inv-loop t a x y empty j₀ j = (j ≤ y) × (anyInBox x j (sought empty a t) ≡ false)
+Inv-loop t a x y empty j₀ j = (anyInBox x j (sought empty a t) ≡ false) × (j ≤ y)
 
 abbrev μ-loop : tie.MeasureT-loop
 μ-loop t a x y empty j₀ j = y - j
 
 loop-holds : tie.Need-loop-holds Inv-loop μ-loop
-loop-holds c = (omega arith, anyInBox-none _ _)
+loop-holds c = (anyInBox-none _ _, omega arith)
 
 add-row-has : tie.Need-add-row-has Inv-loop μ-loop
 add-row-has c = omega arith
@@ -37,10 +37,10 @@ loop-less c = omega arith
 
 loop-again : tie.Need-loop-again Inv-loop μ-loop
 loop-again c =
-    (omega arith, anyInBox-more _ _ _ (c .before .before .before .loop .inv .1) (sym (c .before .row-has .ensures) ∙ c .if1 .left))
+    (anyInBox-more _ _ _ (c .before .before .before .loop .inv .0) (sym (c .before .row-has .ensures) ∙ c .if1 .left), omega arith)
 
 returns-2 : tie.Need-returns-2 Inv-loop μ-loop
-returns-2 c = anyInBox-end _ _ (omega arith) (c .before .loop .inv .1)
+returns-2 c = anyInBox-end _ _ (omega arith) (c .before .loop .inv .0)
 
 pub box-has-spec : {M : Type 1} → statement M
 box-has-spec =

@@ -9,13 +9,13 @@ use Rattle.cells.proofs.row_has.Statement.{statement}
 use Rattle.cells.proofs.row_has.Tie as tie
 
 abbrev Inv-loop : tie.InvT-loop
-Inv-loop t a x w empty i₀ i = (i ≤ x) × (anyInRow i w (sought empty a t) ≡ false)
+Inv-loop t a x w empty i₀ i = (anyInRow i w (sought empty a t) ≡ false) × (i ≤ x)
 
 abbrev μ-loop : tie.MeasureT-loop
 μ-loop t a x w empty i₀ i = x - i
 
 loop-holds : tie.Need-loop-holds Inv-loop μ-loop
-loop-holds c = (omega arith, anyInRow-none _ _)
+loop-holds c = (anyInRow-none _ _, omega arith)
 
 add-is-sought : tie.Need-add-is-sought Inv-loop μ-loop
 add-is-sought c = omega arith
@@ -34,10 +34,10 @@ loop-less c = omega arith
 
 loop-again : tie.Need-loop-again Inv-loop μ-loop
 loop-again c =
-    (omega arith, anyInRow-more _ _ _ (c .before .before .before .loop .inv .1) (sym (c .before .is-sought .ensures) ∙ c .if1 .left))
+    (anyInRow-more _ _ _ (c .before .before .before .loop .inv .0) (sym (c .before .is-sought .ensures) ∙ c .if1 .left), omega arith)
 
 returns-2 : tie.Need-returns-2 Inv-loop μ-loop
-returns-2 c = anyInRow-end _ _ (omega arith) (c .before .loop .inv .1)
+returns-2 c = anyInRow-end _ _ (omega arith) (c .before .loop .inv .0)
 
 pub row-has-spec : {M : Type 1} → statement M
 row-has-spec =

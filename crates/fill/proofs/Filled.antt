@@ -5,10 +5,11 @@ use mathlib.Core.Path.{_≡_, refl, sym, ap, ap₂, _∙_, subst}
 use mathlib.Core.List.{List}
 use mathlib.Core.Logic.{_⊎_, inl, inr, ⊎-elim}
 use native.Mathlib.Omega.{arith}
+use native.Mathlib.Decide.{ℕ-discrete}
 use lib.Dec.{eqb}
 use lib.ListN.{length, getD}
 use Rattle.laws.specs.Says.{Says}
-use Rattle.laws.proofs.Says.{says-eq, says-no, true≢false}
+use Rattle.laws.proofs.Says.{says-eq, says-no, says-false}
 use Rattle.cutting.specs.Limits.{sideMax, valueMax}
 use Rattle.cutting.specs.Piece.{Fits, Inside}
 use Rattle.cutting.specs.Candidate.{Smaller}
@@ -63,6 +64,71 @@ final-only rows cell other x y own u w i = go (u + w) u w (omega arith) i
     go zero u w l i = absurd (omega arith)
     go (suc k) u w l i = step u w i (λ m n s. go k m n (omega arith) (omega arith))
 
--- A box whose cells are empty or within their bounds.
-pub Bounded : (ℕ → ℕ → ℕ) → ℕ → ℕ → Type 0
+-- A box whose cells are empty or within their bounds: refusal 7 does not arise.
+abbrev pub Bounded : (ℕ → ℕ → ℕ) → ℕ → ℕ → Type 0
 Bounded cell x y = (u w : ℕ) → Inside u w x y → (cell u w ≡ empty → ⊥) → cell u w ≤ most u w
+
+-- The values are in range.
+abbrev pub Valued : Rows → Type 0
+Valued rows = (k : ℕ) → k < rows .count → rows .value k ≤ valueMax
+
+-- No cell within its bound is taken for an empty one.
+pub most-fits : (x y : ℕ) → x ≤ sideMax → y ≤ sideMax → most x y < empty
+most-fits x y h k = omega (arith, most-mono x y sideMax sideMax h k)
+
+-- On a bounded box the final numbers are within their bounds.
+pub final-most : (rows : Rows) (cell : ℕ → ℕ → ℕ) (x y : ℕ) → Valued rows → Bounded cell x y → (u w : ℕ) → Inside u w x y → final rows cell u w ≤ most u w
+final-most rows cell x y values bounded u w i = go (u + w) u w (omega arith) i
+  where
+    step : (u w : ℕ) → Inside u w x y → ((m n : ℕ) → Smaller m n u w → final rows cell m n ≤ most m n) → final rows cell u w ≤ most u w
+    step u w i below = by (ℕ-discrete (cell u w) empty)
+      where
+        by : Dec (cell u w ≡ empty) → final rows cell u w ≤ most u w
+        by (yes e) = subst (λ (v : ℕ). v ≤ most u w) (sym (final-empty rows cell u w (i .widthLeast) (i .heightLeast) e)) (worthOf-most rows (final rows cell) u w (i .widthLeast) (i .heightLeast) values below)
+        by (no h) = subst (λ (v : ℕ). v ≤ most u w) (sym (final-kept rows cell u w (i .widthLeast) (i .heightLeast) h)) (bounded u w i h)
+
+    go : (k u w : ℕ) → u + w ≤ k → Inside u w x y → final rows cell u w ≤ most u w
+    go zero u w l i = absurd (omega arith)
+    go (suc k) u w l i = step u w i (λ m n s. go k m n (omega arith) (omega arith))
+
+module _ (rows : Rows) (a b x y : ℕ) (t : List ℕ) (room : a * b ≤ length t) (wide : x ≤ a) (high : y ≤ b) where
+  -- Cells of the box hold their final numbers, cells outside stay.
+  pub filled-inside : (u w : ℕ) → Inside u w x y → cellOf a (filled rows a b x y t) u w ≡ final rows (cellOf a t) u w
+  unfolding filled
+  filled-inside u w i =
+      redrawn-cell _ t room (omega arith)
+      ∙ ap (λ (s : Bool). cond s (final rows (cellOf a t) u w) (cellOf a t u w)) (fits-says u w x y .found (omega arith))
+
+  pub filled-outside : (u w : ℕ) → Inside u w a b → (Fits u w x y → ⊥) → cellOf a (filled rows a b x y t) u w ≡ cellOf a t u w
+  unfolding filled
+  filled-outside u w i h =
+      redrawn-cell _ t room i
+      ∙ ap (λ (s : Bool). cond s (final rows (cellOf a t) u w) (cellOf a t u w)) (says-no (fits-says u w x y) h)
+
+  -- The filled table fills ..
+  pub filled-fills : Fills rows a b x y t (filled rows a b x y t)
+  unfolding filled
+  filled-fills =
+      record {
+        worked = λ u w i e. filled-inside u w i ∙ (final-empty rows (cellOf a t) u w (i .widthLeast) (i .heightLeast) e ∙ sym (worthOf-same rows _ _ u w (i .widthLeast) (i .heightLeast) (λ m n s. filled-inside m n (omega arith))));
+        stayed = λ u w i h. filled-inside u w i ∙ final-kept rows (cellOf a t) u w (i .widthLeast) (i .heightLeast) h;
+        outside = filled-outside;
+        beyond = redrawn-beyond a b _ t;
+        long = redrawn-length a b _ t;
+      }
+
+  -- .. and no other table does.
+  pub fills-only : (t' : List ℕ) → Fills rows a b x y t t' → t' ≡ filled rows a b x y t
+  unfolding filled
+  fills-only t' f = is-redrawn a b _ t t' (f .long) (λ u w i. at u w i (fits u w x y) (fits-says u w x y)) (f .beyond)
+    where
+      own : (u w : ℕ) → Inside u w x y → cellOf a t' u w ≡ settled (cellOf a t u w) (worthOf rows (cellOf a t') u w)
+      own u w i = by (eqb (cellOf a t u w) empty) (says-eq (cellOf a t u w) empty)
+        where
+          by : (s : Bool) → Says s (cellOf a t u w ≡ empty) → cellOf a t' u w ≡ cond s (worthOf rows (cellOf a t') u w) (cellOf a t u w)
+          by true s = f .worked u w i (s .means refl)
+          by false s = f .stayed u w i (says-false s refl)
+
+      at : (u w : ℕ) → Inside u w a b → (s : Bool) → Says s (Fits u w x y) → cellOf a t' u w ≡ cond s (final rows (cellOf a t) u w) (cellOf a t u w)
+      at u w i true s = let g = s .means refl in final-only rows (cellOf a t) (cellOf a t') x y own u w (omega arith)
+      at u w i false s = f .outside u w i (says-false s refl)

@@ -1,3 +1,4 @@
 -- The worth of a cell is the largest candidate, and the filled table is the only one that the rule allows.
 pub mod Worth
+pub mod Steps
 pub mod Filled

@@ -18,11 +18,11 @@ use Rattle.cutting.specs.Candidate.{Candidate, Worth, Smaller}
 use Rattle.cutting.proofs.Bound.{most, most-parts, most-mono}
 use Rattle.cells.specs.Emptied.{fits}
 use Rattle.points.specs.Rows.{Rows}
-use Rattle.fill.specs.Worth.{fittingValue, lineValue, worthOf}
+use Rattle.fill.specs.Worth.{fittingValue, lineAt, lineValue, worthOf}
 
 -- The value of a line's two parts depends on the parts alone.
 pub lineValue-same : (marked : ℕ → Bool) (part other : ℕ → ℕ) (x : ℕ) → ((c : ℕ) → 1 ≤ c → c < x → part c ≡ other c) → lineValue marked part x ≡ lineValue marked other x
-unfolding lineValue
+unfolding lineValue lineAt
 lineValue-same marked part other x h =
     bestBelow-same _ _ (x / 2)
     (λ i b. ap (λ (v : ℕ). cond (marked (suc i)) v 0) (ap₂ _+_ (h (suc i) (omega arith) (omega arith)) (h (rest x (suc i)) (omega arith) (omega arith))))
@@ -31,28 +31,28 @@ lineValue-same marked part other x h =
 pub worthOf-same : (rows : Rows) (cell other : ℕ → ℕ → ℕ) (u w : ℕ) → 1 ≤ u → 1 ≤ w → ((x y : ℕ) → Smaller x y u w → cell x y ≡ other x y) → worthOf rows cell u w ≡ worthOf rows other u w
 unfolding worthOf
 worthOf-same rows cell other u w p q h =
-    ap₂ (λ (m n : ℕ). max (fittingValue rows u w) (max m n))
+    ap₂ (λ (m n : ℕ). max (fittingValue (rows .width) (rows .height) (rows .value) (rows .count) u w) (max m n))
     (lineValue-same (rows .inP) (λ c. cell c w) (λ c. other c w) u (λ c g k. h c w (record { inside = omega arith; less = omega arith })))
     (lineValue-same (rows .inQ) (λ d. cell u d) (λ d. other u d) w (λ d g k. h u d (record { inside = omega arith; less = omega arith })))
 
 -- A line's value is that of a marked line, or 0; and no marked line has more.
 lineValue-attained : (marked : ℕ → Bool) (part : ℕ → ℕ) (x : ℕ) (S : ℕ → Type 0) → S 0 → ((c r : ℕ) → marked c ≡ true → c ≤ x / 2 → Line x c r → S (part c + part r)) → S (lineValue marked part x)
-unfolding lineValue
+unfolding lineValue lineAt
 lineValue-attained marked part x S none each =
     ⊎-elim (λ e. subst S (sym e) none) (λ t. subst S (sym (t .2)) (at (t .0) (t .1) (marked (suc (t .0))) refl))
-    (bestBelow-attained (λ i. cond (marked (suc i)) (part (suc i) + part (rest x (suc i))) 0) (x / 2))
+    (bestBelow-attained (λ i. lineAt marked part x (suc i)) (x / 2))
   where
     at : (i : ℕ) → i < x / 2 → (b : Bool) → marked (suc i) ≡ b → S (cond b (part (suc i) + part (rest x (suc i))) 0)
     at i h true e = each (suc i) (rest x (suc i)) e h (record { least = omega arith; most = omega arith; leaves = refl })
     at i h false e = none
 
 lineValue-bound : (marked : ℕ → Bool) (part : ℕ → ℕ) (x c r : ℕ) → marked c ≡ true → c ≤ x / 2 → Line x c r → part c + part r ≤ lineValue marked part x
-unfolding lineValue
+unfolding lineValue lineAt
 lineValue-bound marked part x zero r e h l = absurd (omega arith)
 lineValue-bound marked part x (suc i) r e h l =
     omega (
       arith,
-      bestBelow-bound (λ k. cond (marked (suc k)) (part (suc k) + part (rest x (suc k))) 0) (x / 2) i h,
+      bestBelow-bound (λ k. lineAt marked part x (suc k)) (x / 2) i h,
       ap (λ (b : Bool). cond b (part (suc i) + part (rest x (suc i))) 0) e,
       ap part (l .leaves),
     )
@@ -64,7 +64,7 @@ fits-says p q u w =
     let s = says-and (says-le p u) (says-le q w) in
     record { means = λ e. record { wide = s .means e .0; high = s .means e .1 }; found = λ f. s .found (f .wide, f .high) }
 
-fitting-attained : (rows : Rows) (u w : ℕ) (S : ℕ → Type 0) → S 0 → ((k : ℕ) → k < rows .count → Fits (rows .width k) (rows .height k) u w → S (rows .value k)) → S (fittingValue rows u w)
+fitting-attained : (rows : Rows) (u w : ℕ) (S : ℕ → Type 0) → S 0 → ((k : ℕ) → k < rows .count → Fits (rows .width k) (rows .height k) u w → S (rows .value k)) → S (fittingValue (rows .width) (rows .height) (rows .value) (rows .count) u w)
 unfolding fittingValue
 fitting-attained rows u w S none each =
     ⊎-elim (λ e. subst S (sym e) none) (λ t. subst S (sym (t .2)) (at (t .0) (t .1) _ (fits-says (rows .width (t .0)) (rows .height (t .0)) u w)))
@@ -74,7 +74,7 @@ fitting-attained rows u w S none each =
     at k h true s = each k h (s .means refl)
     at k h false s = none
 
-fitting-bound : (rows : Rows) (u w k : ℕ) → k < rows .count → Fits (rows .width k) (rows .height k) u w → rows .value k ≤ fittingValue rows u w
+fitting-bound : (rows : Rows) (u w k : ℕ) → k < rows .count → Fits (rows .width k) (rows .height k) u w → rows .value k ≤ fittingValue (rows .width) (rows .height) (rows .value) (rows .count) u w
 unfolding fittingValue
 fitting-bound rows u w k h f =
     omega (

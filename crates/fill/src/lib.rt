@@ -1,1 +1,2 @@
-// soon
+// The filling of a box: each empty cell gets its worth by the rule, from small to large.
+pub mod value;

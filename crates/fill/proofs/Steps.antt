@@ -1,0 +1,88 @@
+-- One law a step for the loops that work out a cell: none, one more, end.
+use Prim.Native.Nat.{ℕ, suc, _+_, _-_, _*_, _/_, _≤_, _<_, max}
+use mathlib.Core.Bool.{Bool, true, false, cond}
+use mathlib.Core.List.{List}
+use mathlib.Core.Path.{_≡_, refl, sym, ap, ap₂, _∙_}
+use native.Mathlib.Omega.{arith}
+use native.Mathlib.Numerals.{add-one}
+use native.Mathlib.Nat.{mul-le-mul-left}
+use Rattle.laws.specs.Below.{bestBelow}
+use Rattle.laws.proofs.Says.{says-no, true≢false}
+use Rattle.laws.proofs.Below.{bestBelow-none, bestBelow-more}
+use Rattle.cutting.specs.Dissection.{rest}
+use Rattle.cutting.specs.Piece.{Inside}
+use Rattle.cells.specs.Cells.{Holds, cellOf}
+use Rattle.cells.specs.Emptied.{fits}
+use Rattle.fill.specs.Worth.{fittingValue, lineAt, lineValue, partOf, Strip}
+use Rattle.fill.proofs.Worth.{fits-says}
+
+pub fits-value : (p q v u w : ℕ) → p ≤ u → q ≤ w → v ≡ cond (fits p q u w) v 0
+fits-value p q v u w h k = ap (λ (b : Bool). cond b v 0) (sym (fits-says p q u w .found (record { wide = h; high = k })))
+
+pub too-wide : (p q v u w : ℕ) → u < p → 0 ≡ cond (fits p q u w) v 0
+too-wide p q v u w h = ap (λ (b : Bool). cond b v 0) (sym (says-no (fits-says p q u w) (λ f. omega (arith, f .wide))))
+
+pub too-high : (p q v u w : ℕ) → w < q → 0 ≡ cond (fits p q u w) v 0
+too-high p q v u w h = ap (λ (b : Bool). cond b v 0) (sym (says-no (fits-says p q u w) (λ f. omega (arith, f .high))))
+
+module _ (width height value : ℕ → ℕ) where
+  pub fitting-none : (u w : ℕ) → 0 ≡ fittingValue width height value 0 u w
+  unfolding fittingValue
+  fitting-none u w = sym (bestBelow-none _)
+
+  pub fitting-more : (u w k : ℕ) {best here next : ℕ} → best ≡ fittingValue width height value k u w → here ≡ cond (fits (width k) (height k) u w) (value k) 0 → next ≡ max best here → next ≡ fittingValue width height value (k + 1) u w
+  unfolding fittingValue
+  fitting-more u w k e h n = n ∙ (ap₂ max e h ∙ sym (bestBelow-more _ _))
+
+-- The lines at 1, …, c.
+unfoldable pub linesUpTo : (ℕ → Bool) → (ℕ → ℕ) → ℕ → ℕ → ℕ
+linesUpTo marked part x c = bestBelow (λ i. lineAt marked part x (suc i)) c
+
+module _ (marked : ℕ → Bool) (part : ℕ → ℕ) (x : ℕ) where
+  pub lines-none : 0 ≡ linesUpTo marked part x 0
+  unfolding linesUpTo
+  lines-none = sym (bestBelow-none _)
+
+  pub lines-more : (c : ℕ) {best here next : ℕ} → best ≡ linesUpTo marked part x c → here ≡ lineAt marked part x (c + 1) → next ≡ max best here → next ≡ linesUpTo marked part x (c + 1)
+  unfolding linesUpTo
+  lines-more c e h n = n ∙ (ap₂ max e (h ∙ ap (lineAt marked part x) (add-one c)) ∙ sym (bestBelow-more _ _))
+
+  pub lines-end : {c best : ℕ} → best ≡ linesUpTo marked part x c → c ≡ x / 2 → best ≡ lineValue marked part x
+  unfolding linesUpTo lineValue
+  lines-end e h = e ∙ ap (bestBelow (λ i. lineAt marked part x (suc i))) h
+
+  pub line-marked : {c m n : ℕ} {b : Bool} → b ≡ marked c → b ≡ true → m ≡ part c → n ≡ part (rest x c) → m + n ≡ lineAt marked part x c
+  unfolding lineAt
+  line-marked {c} e t h k = ap₂ _+_ h k ∙ ap (λ (b : Bool). cond b (part c + part (rest x c)) 0) (sym t ∙ e)
+
+  pub line-unmarked : {c : ℕ} {b : Bool} → b ≡ marked c → b ≡ false → 0 ≡ lineAt marked part x c
+  unfolding lineAt
+  line-unmarked {c} e t = ap (λ (b : Bool). cond b (part c + part (rest x c)) 0) (sym t ∙ e)
+
+-- The cells of a strip, whichever way it is cut.
+pub strip-up : (a : ℕ) (t : List ℕ) (tall : Bool) (side x c : ℕ) → Strip a t tall side x → tall ≡ true → 1 ≤ c → c < x → Holds a c t × Inside side c a c
+strip-up a t false side x c s e p h = absurd (true≢false (sym e))
+strip-up a t true side x c s e p h =
+    let m = s .holds in
+    (record { widthLeast = m .widthLeast; widthMost = m .widthMost; heightLeast = p; heightMost = omega arith; room = omega (arith, mul-le-mul-left {m = c} {n = x} a (omega arith)) },
+    record { widthLeast = s .least; widthMost = s .wide; heightLeast = p; heightMost = omega arith })
+
+pub strip-across : (a : ℕ) (t : List ℕ) (tall : Bool) (side x c : ℕ) → Strip a t tall side x → tall ≡ false → 1 ≤ c → c < x → Holds a side t × Inside c side a side
+strip-across a t true side x c s e p h = absurd (true≢false e)
+strip-across a t false side x c s e p h =
+    (s .holds, record { widthLeast = p; widthMost = omega (arith, s .wide); heightLeast = s .least; heightMost = omega arith })
+
+pub part-up : (a : ℕ) (t : List ℕ) (tall : Bool) (side c : ℕ) → tall ≡ true → cellOf a t side c ≡ partOf a t tall side c
+unfolding partOf
+part-up a t true side c e = refl
+part-up a t false side c e = absurd (true≢false (sym e))
+
+pub part-across : (a : ℕ) (t : List ℕ) (tall : Bool) (side c : ℕ) → tall ≡ false → cellOf a t c side ≡ partOf a t tall side c
+unfolding partOf
+part-across a t true side c e = absurd (true≢false e)
+part-across a t false side c e = refl
+
+-- The two parts of a line do not overflow 32 bits.
+pub line-fits : (a : ℕ) (t : List ℕ) (tall : Bool) (side x c : ℕ) {m n : ℕ} → Strip a t tall side x → 1 ≤ c → c < x → m ≡ partOf a t tall side c → n ≡ partOf a t tall side (rest x c) → m + n < 4_294_967_296
+line-fits a t tall side x c s p h e f =
+    omega (arith, s .adds c (rest x c) (record { least = p; most = omega arith; leaves = refl }))

@@ -1,0 +1,57 @@
+-- `line_value`: the loop's invariant is that the lines at 1, …, c have been tried.
+use Prim.Native.Nat.{_≤_, _-_}
+use mathlib.Core.Bool.{false}
+use mathlib.Core.Path.{_≡_}
+use native.Mathlib.Omega.{arith}
+use lib.ListN.{getD}
+use Rattle.fill.specs.Worth.{partOf}
+use Rattle.fill.proofs.Steps.{linesUpTo, lines-none, lines-more, lines-end}
+use Rattle.fill.proofs.value.line_value.Statement.{statement}
+use Rattle.fill.proofs.value.line_value.Tie as tie
+use Rattle.fill.proofs.value.line_value.Reads as reads
+use Rattle.fill.proofs.value.line_value.Lts as lts
+use Rattle.fill.proofs.value.larger.Reads as larger-reads
+use Rattle.fill.proofs.value.line_at.Reads as line-at-reads
+
+abbrev Inv-loop : tie.InvT-loop
+Inv-loop t a tall side x marks half best₀ c₀ best c = (c ≤ half) × (best ≡ linesUpTo (λ k. getD marks k false) (partOf a t tall side) x c)
+
+abbrev μ-loop : tie.MeasureT-loop
+μ-loop t a tall side x marks half best₀ c₀ best c = half - c
+
+loop-holds : tie.Need-loop-holds Inv-loop μ-loop
+loop-holds c = (omega arith, lines-none _ _ _)
+
+add-c : tie.Need-add-c Inv-loop μ-loop
+add-c c = omega arith
+
+line-at-requires : tie.Need-line-at-requires Inv-loop μ-loop
+line-at-requires c κs = (c .before .before .before .pre .0, omega arith)
+
+larger-requires : tie.Need-larger-requires Inv-loop μ-loop
+larger-requires c κs = omega arith
+
+loop-less : tie.Need-loop-less Inv-loop μ-loop
+loop-less c = omega arith
+
+loop-again : tie.Need-loop-again Inv-loop μ-loop
+loop-again c =
+    let inv = c .before .before .before .loop .inv in
+    (omega arith, lines-more _ _ _ _ (inv .1) (c .before .line-at .ensures) (c .larger .ensures))
+
+returns : tie.Need-returns Inv-loop μ-loop
+returns c = lines-end _ _ _ (c .before .loop .inv .1) (omega arith)
+
+pub line-value-spec : {M : Type 1} → statement M
+line-value-spec =
+    tie.close
+    (tie.spec
+    Inv-loop
+    μ-loop
+    loop-holds
+    add-c
+    line-at-requires
+    larger-requires
+    loop-less
+    loop-again
+    returns)

@@ -8,3 +8,4 @@ pub mod Put
 pub mod Sums
 pub mod Filled
 pub mod Tests
+pub mod First

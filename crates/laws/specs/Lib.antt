@@ -5,3 +5,4 @@ pub mod Below
 pub mod ByIndex
 pub mod Put
 pub mod Filled
+pub mod First

@@ -1,0 +1,364 @@
+/*
+ * The cases to measure, for the library, for C by hand and for the dull scheme.
+ *
+ *   bench agree                   all three give the same answers
+ *   bench count CASE ENGINE WORK  prepares the case; if WORK is 1, one call
+ *   bench times                   the least of several runs, in microseconds
+ *   bench stack                   the deepest stack of each call, in bytes
+ *   bench cases                   their names
+ *
+ * bench/run counts the instructions of "count .. 1" less those of "count .. 0".
+ */
+#define _DEFAULT_SOURCE
+#include <stdio.h>
+#include <stdlib.h>
+#include <string.h>
+#include <time.h>
+#include <ucontext.h>
+
+#include "hand.h"
+
+enum { SIDE = KHON_SIDE_MAX, CELLS = SIDE * SIDE, RUNS = 7 };
+
+static uint32_t cells[CELLS], prepared_cells[CELLS];
+static uint8_t file[KHON_PLAN_ENOUGH(KHON_PIECES_MAX, SIDE, SIDE)];
+static size_t file_len;
+static khon_job job;
+
+/* ---- engines ---- */
+
+typedef struct {
+    const char *name;
+    khon_asked (*ask)(const uint8_t *, size_t, uint32_t *, size_t, uint32_t, uint32_t);
+    khon_planned (*plan)(const uint8_t *, size_t, const uint32_t *, size_t, uint32_t, uint32_t,
+                         uint8_t *, size_t);
+    khon_checked (*check)(const uint8_t *, size_t);
+} engine;
+
+static const engine engines[] = {{"library", khon_ask, khon_plan, khon_check},
+                                 {"hand", hand_ask, hand_plan, hand_check},
+                                 {"dull", dull_ask, NULL, NULL}};
+enum { ENGINES = sizeof engines / sizeof *engines };
+
+/* ---- cases ---- */
+
+static void must(uint32_t refusal) {
+    if (refusal != KHON_ACCEPTED) {
+        printf("a case is refused with %u\n", refusal);
+        exit(1);
+    }
+}
+
+static void open_sheet(uint32_t a, uint32_t b) {
+    khon_changed changed = khon_open(a, b, cells, CELLS);
+    must(changed.refusal);
+    job = changed.job;
+}
+
+static void add(uint32_t p, uint32_t q, uint32_t v) {
+    khon_changed changed =
+        khon_add(job, cells, CELLS, (khon_piece){(uint16_t)p, (uint16_t)q, (uint16_t)v});
+    must(changed.refusal);
+    job = changed.job;
+}
+
+static void correct(uint32_t k, uint32_t p, uint32_t q, uint32_t v) {
+    khon_changed changed =
+        khon_correct(job, cells, CELLS, k, (khon_piece){(uint16_t)p, (uint16_t)q, (uint16_t)v});
+    must(changed.refusal);
+    job = changed.job;
+}
+
+static khon_asked ask_with(const engine *e) {
+    return e->ask((const uint8_t *)&job, KHON_BLOCK_LENGTH(job.count), cells, CELLS, job.width,
+                  job.height);
+}
+
+static khon_planned plan_with(const engine *e) {
+    return e->plan((const uint8_t *)&job, KHON_BLOCK_LENGTH(job.count), cells, CELLS, job.width,
+                   job.height, file, sizeof file);
+}
+
+/* 64 pieces of many sizes: nearly all sides from 20 on are points. */
+static void prepare_dense(void) {
+    open_sheet(SIDE, SIDE);
+    for (uint32_t i = 0; i < KHON_PIECES_MAX; i++) {
+        uint32_t p = 11 + i * 29 % 61, q = 9 + i * 23 % 67;
+        add(p, q, p * q + i * 7 % 13);
+    }
+}
+
+static void prepare_table_1(void) {
+    open_sheet(127, 98);
+    add(18, 65, 18 * 65);
+    add(24, 27, 24 * 27);
+    add(21, 13, 21 * 13);
+    add(36, 17, 36 * 17);
+    add(54, 20, 54 * 20);
+}
+
+static void prepare_sparse(void) {
+    open_sheet(SIDE, SIDE);
+    add(61, 83, 61 * 83);
+    add(97, 55, 97 * 55);
+    add(74, 71, 74 * 71);
+}
+
+static void prepare_corrected(uint32_t p, uint32_t q) {
+    prepare_dense();
+    correct(7, p, q, p * q / 2 + 1);
+    must(ask_with(&engines[1]).refusal);
+    correct(7, p, q, p * q / 2 + 2);
+}
+
+static void prepare_corrected_large(void) {
+    prepare_corrected(200, 180);
+}
+
+static void prepare_corrected_small(void) {
+    prepare_corrected(15, 12);
+}
+
+static void prepare_plan(void) {
+    open_sheet(SIDE, SIDE);
+    add(1, 1, KHON_VALUE_MAX);
+    must(ask_with(&engines[1]).refusal);
+}
+
+static void prepare_check(void) {
+    prepare_plan();
+    khon_planned planned = plan_with(&engines[1]);
+    must(planned.refusal);
+    file_len = planned.length;
+}
+
+typedef enum { ASK, PLAN, CHECK } call;
+
+static const struct {
+    const char *name, *what;
+    void (*prepare)(void);
+    call which;
+} cases[] = {
+    {"dense", "ask 240 by 240, 64 pieces, cold", prepare_dense, ASK},
+    {"table-1", "ask 127 by 98, 5 pieces (001), cold", prepare_table_1, ASK},
+    {"sparse", "ask 240 by 240, 3 large pieces, cold", prepare_sparse, ASK},
+    {"corrected-large", "ask again, 200 by 180 corrected", prepare_corrected_large, ASK},
+    {"corrected-small", "ask again, 15 by 12 corrected", prepare_corrected_small, ASK},
+    {"plan", "plan of 345,625 bytes", prepare_plan, PLAN},
+    {"check", "check of 345,625 bytes", prepare_check, CHECK},
+};
+enum { CASES = sizeof cases / sizeof *cases };
+
+/* One call, and a number that depends on its whole answer. */
+static uint32_t work(const engine *e, call which) {
+    if (which == ASK) {
+        khon_asked asked = ask_with(e);
+        must(asked.refusal);
+        return asked.value;
+    }
+    if (which == PLAN) {
+        khon_planned planned = plan_with(e);
+        must(planned.refusal);
+        return planned.value + planned.length;
+    }
+    khon_checked checked = e->check(file, file_len);
+    must(checked.refusal);
+    return checked.value + checked.note + checked.piece_area + checked.scrap_area;
+}
+
+static int can(const engine *e, call which) {
+    return which == ASK || e->plan != NULL;
+}
+
+/* ---- the commands ---- */
+
+/* The same value, the same table and the same file from all engines. */
+static int agree(void) {
+    static uint32_t first_cells[CELLS];
+    static uint8_t first_file[sizeof file];
+    int bad = 0;
+    for (int i = 0; i < CASES; i++) {
+        uint32_t first = 0;
+        cases[i].prepare();
+        size_t in_use = sizeof *cells * job.width * job.height;
+        memcpy(prepared_cells, cells, sizeof cells);
+        for (int k = 0; k < ENGINES; k++) {
+            if (!can(&engines[k], cases[i].which))
+                continue;
+            memcpy(cells, prepared_cells, sizeof cells);
+            uint32_t answer = work(&engines[k], cases[i].which);
+            if (k == 0) {
+                first = answer;
+                memcpy(first_cells, cells, sizeof cells);
+                memcpy(first_file, file, sizeof file);
+            } else if (answer != first || memcmp(first_cells, cells, in_use) != 0 ||
+                       memcmp(first_file, file, sizeof file) != 0) {
+                printf("%s: %s differs from the library\n", cases[i].name, engines[k].name);
+                bad = 1;
+            }
+        }
+    }
+    return bad;
+}
+
+static int find_case(const char *name) {
+    for (int i = 0; i < CASES; i++)
+        if (strcmp(name, cases[i].name) == 0)
+            return i;
+    return -1;
+}
+
+static int find_engine(const char *name) {
+    for (int k = 0; k < ENGINES; k++)
+        if (strcmp(name, engines[k].name) == 0)
+            return k;
+    return -1;
+}
+
+static double microseconds(void) {
+    struct timespec now;
+    clock_gettime(CLOCK_MONOTONIC, &now);
+    return 1e6 * (double)now.tv_sec + 1e-3 * (double)now.tv_nsec;
+}
+
+static void times(void) {
+    for (int i = 0; i < CASES; i++) {
+        cases[i].prepare();
+        memcpy(prepared_cells, cells, sizeof cells);
+        for (int k = 0; k < ENGINES; k++) {
+            double least = 1e18;
+            if (!can(&engines[k], cases[i].which))
+                continue;
+            for (int run = 0; run < RUNS; run++) {
+                memcpy(cells, prepared_cells, sizeof cells);
+                double start = microseconds();
+                (void)work(&engines[k], cases[i].which);
+                double took = microseconds() - start;
+                least = took < least ? took : least;
+            }
+            printf("%s %s %.1f\n", cases[i].name, engines[k].name, least);
+        }
+    }
+}
+
+/* ---- stack: each call on a painted stack of its own ---- */
+
+static uint8_t stack[1 << 20];
+static ucontext_t here, there;
+static void (*to_run)(void);
+
+static void on_the_stack(void) {
+    to_run();
+}
+
+static size_t deepest(void (*run)(void)) {
+    size_t untouched = 0;
+    memset(stack, 0xA5, sizeof stack);
+    getcontext(&there);
+    there.uc_stack.ss_sp = stack;
+    there.uc_stack.ss_size = sizeof stack;
+    there.uc_link = &here;
+    to_run = run;
+    makecontext(&there, on_the_stack, 0);
+    swapcontext(&here, &there);
+    while (untouched < sizeof stack && stack[untouched] == 0xA5)
+        untouched++;
+    return sizeof stack - untouched;
+}
+
+static void run_nothing(void) {
+}
+static void run_open(void) {
+    (void)khon_open(SIDE, SIDE, cells, CELLS);
+}
+static void run_add(void) {
+    (void)khon_add(job, cells, CELLS, (khon_piece){1, 1, 1});
+}
+static void run_correct(void) {
+    (void)khon_correct(job, cells, CELLS, 1, (khon_piece){1, 1, 1});
+}
+static void run_remove(void) {
+    (void)khon_remove(job, cells, CELLS, 1);
+}
+static void run_ask(void) {
+    must(ask_with(&engines[0]).refusal);
+}
+static void run_plan(void) {
+    must(plan_with(&engines[0]).refusal);
+}
+static void run_check(void) {
+    must(khon_check(file, file_len).refusal);
+}
+static void run_hand_plan(void) {
+    must(plan_with(&engines[1]).refusal);
+}
+static void run_hand_check(void) {
+    must(hand_check(file, file_len).refusal);
+}
+
+/* A file of 479 levels, each line's first part the deeper one: lines at 239,
+   238 .. 1 in width, then so in height, and all leaves scrap. */
+static void write_leaning_file(void) {
+    uint8_t *at = file;
+    uint32_t lines = 2 * (SIDE - 1), start = 6 + 3 * (2 * lines + 1), sum = 1;
+    const uint32_t trailer[3] = {start, start - 6, 0};
+    memcpy(at, (const uint8_t[]){SIDE, 0, SIDE, 0, 0, 0}, 6);
+    at += 6;
+    for (uint32_t i = 0; i <= 2 * lines; i++, at += 3) {
+        at[0] = i >= lines ? 'S' : i < lines / 2 ? 'V' : 'H';
+        at[1] = i >= lines ? 0 : (uint8_t)(SIDE - 1 - i % (lines / 2));
+        at[2] = 0;
+    }
+    memcpy(at, trailer, sizeof trailer);
+    for (const uint8_t *byte = file; byte < at + 12; byte++)
+        sum = 3 * sum + *byte;
+    memcpy(at + 12, &sum, sizeof sum);
+    file_len = start + 16;
+}
+
+static void stack_use(void) {
+    size_t frame = deepest(run_nothing);
+    printf("open %zu\n", deepest(run_open) - frame);
+    prepare_table_1();
+    printf("add %zu\n", deepest(run_add) - frame);
+    printf("correct %zu\n", deepest(run_correct) - frame);
+    printf("remove %zu\n", deepest(run_remove) - frame);
+    prepare_dense();
+    printf("ask %zu\n", deepest(run_ask) - frame);
+    prepare_plan(); /* 479 levels, here and below */
+    printf("plan %zu\n", deepest(run_plan) - frame);
+    printf("hand-plan %zu\n", deepest(run_hand_plan) - frame);
+    write_leaning_file();
+    printf("check %zu\n", deepest(run_check) - frame);
+    printf("hand-check %zu\n", deepest(run_hand_check) - frame);
+}
+
+int main(int count, char **words) {
+    if (count == 2 && strcmp(words[1], "agree") == 0)
+        return agree();
+    if (count == 2 && strcmp(words[1], "times") == 0) {
+        times();
+        return 0;
+    }
+    if (count == 2 && strcmp(words[1], "stack") == 0) {
+        stack_use();
+        return 0;
+    }
+    if (count == 2 && strcmp(words[1], "cases") == 0) {
+        for (int i = 0; i < CASES; i++)
+            printf("%s|%s\n", cases[i].name, cases[i].what);
+        return 0;
+    }
+    if (count == 5 && strcmp(words[1], "count") == 0) {
+        int i = find_case(words[2]), k = find_engine(words[3]);
+        if (i >= 0 && k >= 0 && can(&engines[k], cases[i].which)) {
+            cases[i].prepare();
+            if (strcmp(words[4], "1") == 0)
+                printf("%u\n", work(&engines[k], cases[i].which));
+            return 0;
+        }
+        return 3;
+    }
+    fprintf(stderr, "usage: bench agree | times | stack | cases | count CASE ENGINE 0|1\n");
+    return 2;
+}

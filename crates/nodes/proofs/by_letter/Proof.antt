@@ -1,0 +1,54 @@
+-- `by_letter` meets its contract.
+use mathlib.Core.Path.{_∙_}
+use native.Mathlib.Omega.{arith}
+use Rattle.nodes.proofs.Rules.{on-V, on-H, on-P, on-S, on-other}
+use borrow.Author.Needs.{needs}
+use Rattle.nodes.proofs.by_letter.Statement.{statement}
+use Rattle.nodes.proofs.by_letter.Tie as tie
+use Rattle.nodes.proofs.by_letter.Reads as reads
+use Rattle.nodes.proofs.by_letter.Lts as lts
+use Rattle.nodes.proofs.horizontal.Reads as horizontal-reads
+use Rattle.nodes.proofs.piece.Reads as piece-reads
+use Rattle.nodes.proofs.scrap.Reads as scrap-reads
+use Rattle.nodes.proofs.vertical.Reads as vertical-reads
+
+vertical-requires : tie.Need-vertical-requires
+vertical-requires c κs = search needs
+
+horizontal-requires : tie.Need-horizontal-requires
+horizontal-requires c κs = search needs
+
+piece-requires : tie.Need-piece-requires
+piece-requires c κs = search needs
+
+scrap-requires : tie.Need-scrap-requires
+scrap-requires c κs = search needs
+
+returns : tie.Need-returns
+returns c = c .vertical .ensures ∙ on-V _ _ _ _ _ (omega arith)
+
+returns-2 : tie.Need-returns-2
+returns-2 c = c .horizontal .ensures ∙ on-H _ _ _ _ _ (omega arith)
+
+returns-3 : tie.Need-returns-3
+returns-3 c = c .piece .ensures ∙ on-P _ _ _ _ _ (omega arith)
+
+returns-4 : tie.Need-returns-4
+returns-4 c = c .scrap .ensures ∙ on-S _ _ _ _ _ (omega arith)
+
+returns-5 : tie.Need-returns-5
+returns-5 c = on-other _ _ _ _ _ (λ e. omega arith) (λ e. omega arith) (λ e. omega arith) (λ e. omega arith)
+
+pub by-letter-spec : {M : Type 1} → statement M
+by-letter-spec =
+    tie.close
+    (tie.spec
+    vertical-requires
+    horizontal-requires
+    piece-requires
+    scrap-requires
+    returns
+    returns-2
+    returns-3
+    returns-4
+    returns-5)

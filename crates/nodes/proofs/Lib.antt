@@ -2,3 +2,5 @@
 pub mod Rules
 pub mod Own
 pub mod Within
+pub mod Encoding
+pub mod Exactly

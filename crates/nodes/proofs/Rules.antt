@@ -165,9 +165,9 @@ pub node-short : (pieces : List Piece) (s : List ℕ) (f : Frame) → length s <
 unfolding nodeAt
 node-short pieces s f h = sym (not-chosen (says-le (f .at + nodeLength) (length s)) _ _ (λ l. omega arith))
 
-pub node-whole : (pieces : List Piece) (s : List ℕ) (f : Frame) (number : ℕ) → f .at + nodeLength ≤ length s → number ≡ number2Of s (f .at + 1) → letterNode pieces (getD s (f .at) 0) number (f .sides) (f .at + nodeLength) ≡ nodeAt pieces s f
+pub node-whole : (pieces : List Piece) (s : List ℕ) (f : Frame) (letter number : ℕ) → f .at + nodeLength ≤ length s → letter ≡ getD s (f .at) 0 → number ≡ number2Of s (f .at + 1) → letterNode pieces letter number (f .sides) (f .at + nodeLength) ≡ nodeAt pieces s f
 unfolding nodeAt
-node-whole pieces s f number h e = rw e (sym (chosen (says-le _ _) _ _ h))
+node-whole pieces s f letter number h d e = rw (d, e) (sym (chosen (says-le _ _) _ _ h))
 
 -- The node at a place is broken, or is whole and obeys the rules.
 pub data Judged (pieces : List Piece) (s : List ℕ) (f : Frame) : Node → Type 0 where

@@ -1,5 +1,5 @@
 -- `first_node` meets its contract.
-use mathlib.Core.Path.{_∙_}
+use mathlib.Core.Path.{refl, _∙_}
 use native.Mathlib.Omega.{arith}
 use Rattle.nodes.proofs.Rules.{node-short, node-whole}
 use borrow.Author.Needs.{needs}
@@ -42,7 +42,7 @@ returns-3 : tie.Need-returns-3
 returns-3 c =
     let start = c .before .before .before .before .before .before .before .before in
     c .by-letter .ensures
-    ∙ node-whole _ (start .args .nodes .now) (start .args .frame) _ (omega arith) (c .before .before .wide .ensures ∙ c .before .before .before .number2 .ensures)
+    ∙ node-whole _ (start .args .nodes .now) (start .args .frame) _ _ (omega arith) refl (c .before .before .wide .ensures ∙ c .before .before .before .number2 .ensures)
 
 pub first-node-spec : {M : Type 1} → statement M
 first-node-spec =

@@ -1,5 +1,5 @@
 -- `piece` meets its contract.
-use mathlib.Core.Path.{_∙_, sym}
+use mathlib.Core.Path.{sym}
 use native.Mathlib.Omega.{arith}
 use Rattle.nodes.proofs.Rules.{piece-kept, piece-broken, row-sizes, row-numbered}
 use borrow.Author.Needs.{needs}
@@ -32,7 +32,7 @@ wide-requires : tie.Need-wide-requires
 wide-requires c κs = search needs
 
 returns-3 : tie.Need-returns-3
-returns-3 c = piece-broken _ _ _ _ (λ n. c .if3 .taken (c .before .before .wide .ensures ∙ row-sizes _ _ _ _ _ _ _ _ n .1))
+returns-3 c = piece-broken _ _ _ _ (λ n. omega (arith, row-sizes _ _ _ _ _ _ _ _ n .1))
 
 mul-wide-2 : tie.Need-mul-wide-2
 mul-wide-2 c = search needs
@@ -44,7 +44,7 @@ wide-requires-2 : tie.Need-wide-requires-2
 wide-requires-2 c κs = search needs
 
 returns-4 : tie.Need-returns-4
-returns-4 c = piece-broken _ _ _ _ (λ n. c .if4 .taken (c .before .before .wide2 .ensures ∙ row-sizes _ _ _ _ _ _ _ _ n .2))
+returns-4 c = piece-broken _ _ _ _ (λ n. omega (arith, row-sizes _ _ _ _ _ _ _ _ n .2))
 
 mul-wide-3 : tie.Need-mul-wide-3
 mul-wide-3 c = search needs

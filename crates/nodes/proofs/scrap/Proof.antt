@@ -9,7 +9,7 @@ use Rattle.nodes.proofs.scrap.Lts as lts
 use Rattle.nodes.proofs.area.Reads as area-reads
 
 returns : tie.Need-returns
-returns c = scrap-broken _ _ _ (c .if1 .taken)
+returns c = scrap-broken _ _ _ (λ z. omega arith)
 
 area-requires : tie.Need-area-requires
 area-requires c κs = search needs

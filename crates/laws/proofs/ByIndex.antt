@@ -1,8 +1,9 @@
 -- The laws of byIndex: its length, its elements, and that a list with these elements is it.
 use Prim.Native.Nat.{ℕ, zero, suc, _+_, _≤_, _<_}
 use mathlib.Core.Path.{_≡_, refl, sym, ap, ap₂, _∙_}
-use mathlib.Core.List.{List, [], _∷_}
+use mathlib.Core.List.{List, [], _∷_, _++_}
 use native.Mathlib.Omega.{arith}
+use native.Mathlib.Numerals.{add-one}
 use lib.ListN.{length, getD, set, length-set}
 use lib.Seq.{ext-getD, getD-set-same, getD-set-other}
 use Rattle.laws.specs.ByIndex.{byIndex}
@@ -28,3 +29,9 @@ unfolding byIndex
 byIndex-same f g zero h = refl
 byIndex-same f g (suc n) h =
     ap₂ _∷_ (h zero (omega arith)) (byIndex-same (λ k. f (suc k)) (λ k. g (suc k)) n (λ k b. h (suc k) (omega arith)))
+
+-- One element more stands at the end: the code's n + 1.
+pub byIndex-more {ℓ} : {A : Type ℓ} (f : ℕ → A) (n : ℕ) → byIndex f (n + 1) ≡ byIndex f n ++ (f n ∷ [])
+unfolding byIndex
+byIndex-more f zero = refl
+byIndex-more f (suc n) = rw add-one (ap (λ l. f zero ∷ l) (rw add-one at (byIndex-more (λ k. f (suc k)) n)))

@@ -1,9 +1,9 @@
 -- The laws of filled: nothing filled, one element more, what stands where, and when it is a row by index.
-use Prim.Native.Nat.{ℕ, zero, suc, _+_, _≤_, _<_}
-use mathlib.Core.Bool.{Bool, true, false, cond}
-use mathlib.Core.Path.{_≡_, refl, sym, ap, ap₂, _∙_}
+use Prim.Native.Nat.{ℕ, _+_, _≤_, _<_}
+use mathlib.Core.Bool.{Bool, cond}
+use mathlib.Core.Path.{_≡_, sym, ap, ap₂, _∙_}
 use mathlib.Core.Logic.{_⊎_, inl, inr, ⊎-elim}
-use mathlib.Core.List.{List, [], _∷_}
+use mathlib.Core.List.{List}
 use native.Mathlib.Omega.{arith}
 use native.Mathlib.Numerals.{add-one}
 use lib.Dec.{ltb}
@@ -13,7 +13,7 @@ use borrow.Author.Tests.{lt-ltb, le-ltb}
 use Rattle.laws.specs.ByIndex.{byIndex}
 use Rattle.laws.specs.Filled.{filled}
 use Rattle.laws.proofs.Order.{le-or-lt, last-or-below, eq-or-not}
-use Rattle.laws.proofs.ByIndex.{byIndex-length, byIndex-at, is-byIndex, byIndex-same}
+use Rattle.laws.proofs.ByIndex.{byIndex-length, byIndex-at, is-byIndex}
 
 module _ {ℓ} {A : Type ℓ} (f : ℕ → A) (z : A) where
   pub filled-length : (i n : ℕ) → length (filled f z i n) ≡ n
@@ -52,6 +52,10 @@ module _ {ℓ} {A : Type ℓ} (f : ℕ → A) (z : A) where
       (λ q. getD-set-other (filled f z i n) i k (f i) z (λ w. omega arith) ∙ filled-front i n k z q c)
       (last-or-below (rw add-one at b)))
       (λ k b c. getD-set-other (filled f z i n) i k (f i) z (λ w. omega arith) ∙ filled-back i n k z (omega arith) c)
+
+  -- Filled up to j, which is i.
+  pub filled-end : (n : ℕ) {i j : ℕ} {l : List A} → l ≡ filled f z i n → i ≡ j → l ≡ filled f z j n
+  filled-end n e q = e ∙ ap (λ (k : ℕ). filled f z k n) q
 
   -- Where g goes on as f does below i, and is z from there on, the row is g's.
   pub filled-whole : (g : ℕ → A) (i n : ℕ) → ((k : ℕ) → k < i → f k ≡ g k) → ((k : ℕ) → i ≤ k → z ≡ g k) → filled f z i n ≡ byIndex g n

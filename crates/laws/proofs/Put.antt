@@ -1,11 +1,11 @@
 -- The laws of put: its length, what stands where, one put after another, and one element.
-use Prim.Native.Nat.{ℕ, zero, suc, _+_, _≤_, _<_}
+use Prim.Native.Nat.{ℕ, _+_, _≤_, _<_}
 use mathlib.Core.Path.{_≡_, refl, sym, ap, ap₂, _∙_}
 use mathlib.Core.List.{List, [], _∷_, _++_, append-assoc}
 use native.Mathlib.Omega.{arith}
 use native.Mathlib.Nat.{add-zero}
-use lib.ListN.{length, take, drop, getD, set, length-append, length-drop, length-set, List·getD-append, take-append-drop}
-use lib.Seq.{length-take-le, take-append-le, drop-append-add, take-append-add, take-at, drop-at, drop-drop, getD-take, getD-drop, getD-append-add, sets, sets-eq, length-sets}
+use lib.ListN.{length, take, drop, getD, set, length-append, length-drop, take-append-drop}
+use lib.Seq.{length-take-le, take-at, drop-at, drop-drop, getD-take, getD-drop, sets, sets-eq}
 use Rattle.laws.specs.Put.{put}
 
 module _ {ℓ} {A : Type ℓ} where
@@ -73,3 +73,7 @@ module _ {ℓ} {A : Type ℓ} where
       ∙ (drop-drop (length f) (at + length e) o ∙ ap (λ (k : ℕ). drop k o) places)) in
       ap₂ (λ (a b : List A). a ++ (f ++ b)) (put-front o at e (omega arith)) rest
       ∙ (append-assoc (take at o) e _ ∙ ap (λ (m : List A). take at o ++ m) (sym (append-assoc e f _)))
+
+  -- The same of what the code left behind it, step by step.
+  pub put-next : (o : List A) (at : ℕ) (e f : List A) {p q : List A} {next : ℕ} → at + length e ≤ length o → next ≡ at + length e → p ≡ put o at e → q ≡ put p next f → q ≡ put o at (e ++ f)
+  put-next o at e f h n i j = j ∙ (ap₂ (λ (l : List A) (k : ℕ). put l k f) i n ∙ put-put o at e f h)

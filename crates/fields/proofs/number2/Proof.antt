@@ -1,6 +1,6 @@
 -- `number2` meets its contract.
-use Rattle.fields.specs.Number.{number2Of}
 use borrow.Author.Needs.{needs}
+use Rattle.fields.specs.Number.{number2Of}
 use Rattle.fields.proofs.number2.Statement.{statement}
 use Rattle.fields.proofs.number2.Tie as tie
 

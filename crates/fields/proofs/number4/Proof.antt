@@ -1,6 +1,6 @@
 -- `number4` meets its contract.
-use Rattle.fields.specs.Number.{number4Of}
 use borrow.Author.Needs.{needs}
+use Rattle.fields.specs.Number.{number4Of}
 use Rattle.fields.proofs.number4.Statement.{statement}
 use Rattle.fields.proofs.number4.Tie as tie
 

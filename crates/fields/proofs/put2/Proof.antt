@@ -1,8 +1,8 @@
 -- `put2` meets its contract.
 use lib.ListN.{length-set}
 use native.Mathlib.Omega.{arith}
-use Rattle.fields.proofs.Number.{put-bytes2}
 use borrow.Author.Needs.{needs}
+use Rattle.fields.proofs.Number.{put-bytes2}
 use Rattle.fields.proofs.put2.Statement.{statement}
 use Rattle.fields.proofs.put2.Tie as tie
 

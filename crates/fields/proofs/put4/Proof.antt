@@ -1,7 +1,7 @@
 -- `put4` meets its contract: two numbers of two bytes, one behind the other.
 use native.Mathlib.Omega.{arith}
-use Rattle.fields.proofs.Number.{put-bytes4}
 use borrow.Author.Needs.{needs}
+use Rattle.fields.proofs.Number.{put-bytes4}
 use Rattle.fields.proofs.put4.Statement.{statement}
 use Rattle.fields.proofs.put4.Tie as tie
 

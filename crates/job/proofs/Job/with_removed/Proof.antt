@@ -1,0 +1,31 @@
+-- `Job::with_removed` meets its contract.
+use Prim.Native.Nat.{_-_}
+use mathlib.Core.Path.{refl}
+use native.Mathlib.Omega.{arith}
+use borrow.Author.Needs.{needs}
+use Rattle.job.proofs.Changed.{moved-below, removed-done}
+use Rattle.job.proofs.Job.with_removed.Statement.{statement}
+use Rattle.job.proofs.Job.with_removed.Tie as tie
+
+cast-count : tie.Need-cast-count
+cast-count c = search needs
+
+sub-count : tie.Need-sub-count
+sub-count c = search needs
+
+sub-at : tie.Need-sub-at
+sub-at c = search needs
+
+kept-requires : tie.Need-kept-requires
+kept-requires c κs = (omega arith, λ k h. omega (arith, moved-below (c .before .before .args .number - 1) k))
+
+sub-t8 : tie.Need-sub-t8
+sub-t8 c = search needs
+
+returns : tie.Need-returns
+returns c =
+    let pre = c .before .before .before .before .pre in
+    removed-done _ _ (pre .0) (pre .1 .0) (pre .1 .1) refl (c .before .kept .ensures)
+
+pub with-removed-spec : {M : Type 1} → statement M
+with-removed-spec = tie.close (tie.spec cast-count sub-count sub-at kept-requires sub-t8 returns)

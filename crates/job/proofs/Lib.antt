@@ -1,0 +1,6 @@
+-- The laws of the job: its pieces, its range, its changes, its rows and its block.
+pub mod Pieces
+pub mod Range
+pub mod Changed
+pub mod Rows
+pub mod Blocks

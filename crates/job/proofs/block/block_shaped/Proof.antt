@@ -1,0 +1,49 @@
+-- `block::block_shaped` meets its contract.
+use mathlib.Core.Bool.{_&&_}
+use lib.Dec.{leb, eqb}
+use Prim.Native.Nat.{_≤_, _<_}
+use mathlib.Core.Path.{ap, _∙_}
+use native.Mathlib.Omega.{arith}
+use lib.ListN.{length}
+use borrow.Author.Needs.{needs}
+use Rattle.laws.proofs.Tests.{le-no, le-yes}
+use Rattle.cutting.specs.Limits.{piecesMax}
+use Rattle.job.specs.Block.{blockShape, countIn, blockLength}
+use Rattle.job.proofs.block.block_shaped.Statement.{statement}
+use Rattle.job.proofs.block.block_shaped.Tie as tie
+
+returns : tie.Need-returns
+unfolding blockShape
+returns c =
+    let s = c .before .before .args .s .now in
+    le-no (leb (countIn s) piecesMax && eqb (length s) (blockLength (countIn s))) (c .if1 .taken)
+
+number2-requires : tie.Need-number2-requires
+number2-requires c κs = search needs
+
+returns-2 : tie.Need-returns-2
+unfolding blockShape
+returns-2 c =
+    let s = c .before .before .before .before .args .s .now in
+    let above : piecesMax < countIn s = omega (arith, c .before .number2 .ensures) in
+    le-yes (c .before .before .if1 .left) (le-no (eqb (length s) (blockLength (countIn s))) above)
+
+wide-requires : tie.Need-wide-requires
+wide-requires c κs = search needs
+
+block-length-requires : tie.Need-block-length-requires
+block-length-requires c κs = search needs
+
+returns-3 : tie.Need-returns-3
+unfolding blockShape
+returns-3 c =
+    let past2 = c .before .before in
+    let count = past2 .before .number2 .ensures in
+    let most : countIn (past2 .before .before .before .before .args .s .now) ≤ piecesMax = omega (arith, count) in
+    le-yes (past2 .before .before .if1 .left)
+    (le-yes most (ap (eqb _) (c .block-length .ensures ∙ ap blockLength (c .before .wide .ensures ∙ count))))
+
+pub block-shaped-spec : {M : Type 1} → statement M
+block-shaped-spec =
+    tie.close
+    (tie.spec returns number2-requires returns-2 wide-requires block-length-requires returns-3)

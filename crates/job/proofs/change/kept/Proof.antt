@@ -1,0 +1,82 @@
+-- `change::kept` meets its contract. The invariant: the first k records are kept.
+use lib.ListN.{replicate, getD}
+use Prim.Native.Nat.{_-_, _≤_, _<_}
+use mathlib.Core.Path.{_≡_, ap, _∙_}
+use native.Mathlib.Omega.{arith}
+use borrow.Author.Needs.{needs}
+use Rattle.cutting.specs.Limits.{piecesMax}
+use Rattle.laws.specs.Filled.{filled}
+use Rattle.laws.proofs.Filled.{filled-none, filled-end}
+use Rattle.job.specs.Job.{noRecord}
+use Rattle.job.specs.Change.{movedFrom}
+use Rattle.job.proofs.Changed.{kept-more}
+use Rattle.job.proofs.change.kept.Statement.{statement}
+use Rattle.job.proofs.change.kept.Tie as tie
+
+abbrev Inv-loop : tie.InvT-loop
+Inv-loop gap count records kept₀ k₀ kept k = (k ≤ count) × (kept ≡ filled (λ i. getD records (movedFrom gap i) noRecord) noRecord k piecesMax)
+
+abbrev μ-loop : tie.MeasureT-loop
+μ-loop gap count records kept₀ k₀ kept k = count - k
+
+zeros-requires : tie.Need-zeros-requires Inv-loop μ-loop
+zeros-requires c κs = search needs
+
+loop-holds : tie.Need-loop-holds Inv-loop μ-loop
+loop-holds c = (omega arith, ap (replicate 64) (c .zeros .ensures) ∙ filled-none _ noRecord 64)
+
+moved-from-requires : tie.Need-moved-from-requires Inv-loop μ-loop
+moved-from-requires c κs = search needs
+
+-- What is read lies in the row.
+within : (c : tie.After-moved-from Inv-loop μ-loop) → c .moved-from .result < piecesMax
+within c =
+    let head = c .before .before in
+    omega (arith, head .before .before .pre .1 (head .loop .k) (c .before .loop-test .taken), c .moved-from .ensures)
+
+mul-kept : tie.Need-mul-kept Inv-loop μ-loop
+mul-kept c = omega (arith, within c)
+
+array-copy-out-kept : tie.Need-array-copy-out-kept Inv-loop μ-loop
+array-copy-out-kept c = omega (arith, within c)
+
+mul-kept-2 : tie.Need-mul-kept-2 Inv-loop μ-loop
+mul-kept-2 c = omega arith
+
+array-set-from-kept : tie.Need-array-set-from-kept Inv-loop μ-loop
+array-set-from-kept c = omega arith
+
+add-k : tie.Need-add-k Inv-loop μ-loop
+add-k c = omega arith
+
+loop-less : tie.Need-loop-less Inv-loop μ-loop
+loop-less c = omega arith
+
+loop-again : tie.Need-loop-again Inv-loop μ-loop
+loop-again c =
+    let head = c .before .before .before in
+    let args = head .before .before .args in
+    (omega arith, kept-more (args .t1) (args .gap) (head .loop .k) (omega arith) (head .loop .inv .1) (c .before .moved-from .ensures))
+
+returns : tie.Need-returns Inv-loop μ-loop
+returns c =
+    let end : c .before .loop .k ≡ c .before .before .before .args .count = omega arith in
+    filled-end _ noRecord piecesMax (c .before .loop .inv .1) end
+
+pub kept-spec : {M : Type 1} → statement M
+kept-spec =
+    tie.close
+    (tie.spec
+    Inv-loop
+    μ-loop
+    zeros-requires
+    loop-holds
+    moved-from-requires
+    mul-kept
+    array-copy-out-kept
+    mul-kept-2
+    array-set-from-kept
+    add-k
+    loop-less
+    loop-again
+    returns)

@@ -1,0 +1,37 @@
+-- The job by value: its records as the pieces that they stand for, and the job that has given pieces.
+use Prim.Native.Nat.{ℕ}
+use mathlib.Core.Path.{_≡_}
+use mathlib.Core.List.{List, []}
+use lib.ListN.{length, getD}
+use Rattle.laws.specs.ByIndex.{byIndex}
+use Rattle.cutting.specs.Piece.{Piece, noPiece}
+use Rattle.cutting.specs.Limits.{piecesMax}
+use Rattle.job.specs.declared.Piece.{Piece as Record}
+use Rattle.job.specs.declared.Job.{Job}
+
+-- A record stands for a piece, and a piece is kept in a record.
+abbrev pub pieceOf : Record → Piece
+pieceOf r = record { width = r .width; height = r .height; value = r .value }
+
+abbrev pub recordOf : Piece → Record
+recordOf p = record { width = p .width; height = p .height; value = p .value }
+
+-- A record of zeros.
+abbrev pub noRecord : Record
+noRecord = recordOf noPiece
+
+-- The pieces of a job, its first n records. "Records past n in a job aren't read"
+unfoldable pub piecesOf : Job → List Piece
+piecesOf job = byIndex (λ k. pieceOf (getD (job .pieces) k noRecord)) (job .count)
+
+-- The job with these sides and pieces, at most 64. "an accepted open, add, correct or remove returns them as zeros"
+unfoldable pub jobOf : ℕ → ℕ → List Piece → Job
+jobOf width height pieces = record { width = width; height = height; count = length pieces; pieces = byIndex (λ k. recordOf (getD pieces k noPiece)) piecesMax }
+
+-- The records past n are zeros.
+pub record Tidy (job : Job) : Type 0 where
+  pub zeros : job ≡ jobOf (job .width) (job .height) (piecesOf job)
+
+-- A "job of zeros, which every later call refuses".
+unfoldable pub zeroJob : Job
+zeroJob = jobOf 0 0 []

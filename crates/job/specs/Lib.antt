@@ -1,0 +1,6 @@
+-- The job as a value, in document 01's words.
+pub mod Job
+pub mod Range
+pub mod Change
+pub mod Row
+pub mod Block

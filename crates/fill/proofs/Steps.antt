@@ -63,9 +63,10 @@ module _ (marked : ℕ → Bool) (part : ℕ → ℕ) (x : ℕ) where
 pub strip-up : (a : ℕ) (t : List ℕ) (tall : Bool) (side x c : ℕ) → Strip a t tall side x → tall ≡ true → 1 ≤ c → c < x → Holds a c t × Inside side c a c
 strip-up a t false side x c s e p h = absurd (true≢false (sym e))
 strip-up a t true side x c s e p h =
-    let m = s .holds in
-    (record { widthLeast = m .widthLeast; widthMost = m .widthMost; heightLeast = p; heightMost = omega arith; room = omega (arith, mul-le-mul-left {m = c} {n = x} a (omega arith)) },
-    record { widthLeast = s .least; widthMost = s .wide; heightLeast = p; heightMost = omega arith })
+    let m = s .holds in (
+      record { widthLeast = m .widthLeast; widthMost = m .widthMost; heightLeast = p; heightMost = omega arith; room = omega (arith, mul-le-mul-left {m = c} {n = x} a (omega arith)) },
+      record { widthLeast = s .least; widthMost = s .wide; heightLeast = p; heightMost = omega arith },
+    )
 
 pub strip-across : (a : ℕ) (t : List ℕ) (tall : Bool) (side x c : ℕ) → Strip a t tall side x → tall ≡ false → 1 ≤ c → c < x → Holds a side t × Inside c side a side
 strip-across a t true side x c s e p h = absurd (true≢false e)

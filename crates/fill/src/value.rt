@@ -7,7 +7,6 @@ ghost use Rattle.cutting.specs.Limits.{sideMax, piecesMax};
 ghost use Rattle.cutting.specs.Dissection.{Line, rest};
 ghost use Rattle.cells.specs.Emptied.{fits};
 ghost use Rattle.fill.specs.Worth.{fittingValue, lineValue, lineAt, partOf, Strip};
-
 use points::Marks;
 
 fn larger(x: u32, y: u32) -> u32
@@ -36,7 +35,14 @@ fn value_if_fits(p: u16, q: u16, v: u16, u: usize, w: usize) -> u32
 }
 
 // The largest value of a piece that fits in u by w.
-pub fn fitting_value(n: usize, widths: &[u16; 64], heights: &[u16; 64], values: &[u16; 64], u: usize, w: usize) -> u32
+pub fn fitting_value(
+    n: usize,
+    widths: &[u16; 64],
+    heights: &[u16; 64],
+    values: &[u16; 64],
+    u: usize,
+    w: usize,
+) -> u32
     requires { ⌜ n ≤ piecesMax ⌝ }
     ensures { λ r. ⌜ r ≡ fittingValue (λ k. getD (now (widths .entry)) k 0) (λ k. getD (now (heights .entry)) k 0) (λ k. getD (now (values .entry)) k 0) n u w ⌝ }
 {

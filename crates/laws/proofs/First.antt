@@ -8,7 +8,6 @@ use Rattle.laws.specs.First.{firstBelow, First}
 use Rattle.laws.proofs.Order.{last-or-below}
 use Rattle.laws.proofs.Says.{true≢false}
 
-
 -- The test's answer at 0 decides whether the search goes on.
 abbrev begun : Bool → ℕ → ℕ
 begun b r = elim b [ true ↦ zero | false ↦ suc r ]

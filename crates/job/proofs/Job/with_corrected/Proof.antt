@@ -14,6 +14,9 @@ cast-count c = search needs
 sub-at : tie.Need-sub-at
 sub-at c = search needs
 
+cast-kept : tie.Need-cast-kept
+cast-kept c = search needs
+
 kept-requires : tie.Need-kept-requires
 kept-requires c κs = (omega arith, λ k h. let low : k < piecesMax = omega arith in omega (arith, moved-low piecesMax k low))
 
@@ -30,4 +33,4 @@ returns c =
 
 pub with-corrected-spec : {M : Type 1} → statement M
 with-corrected-spec =
-    tie.close (tie.spec cast-count sub-at kept-requires mul-pieces array-set-from-pieces returns)
+    tie.close (tie.spec cast-count sub-at cast-kept kept-requires mul-pieces array-set-from-pieces returns)

@@ -69,10 +69,14 @@ unfolding anyInBox anyInRow
 anyInBox-same x y f g same =
     anyBelow-same _ _ y (λ j h. anyBelow-same _ _ x (λ i k. same (suc i) (suc j) (omega arith)))
 
+pub countInRow-same : (x w : ℕ) (f g : ℕ → ℕ → Bool) → ((u : ℕ) → 1 ≤ u → u ≤ x → f u w ≡ g u w) → countInRow x w f ≡ countInRow x w g
+unfolding countInRow
+countInRow-same x w f g same = sumBelow-same _ _ x (λ i k. ap counted (same (suc i) (omega arith) (omega arith)))
+
 pub countInBox-same : (x y : ℕ) (f g : ℕ → ℕ → Bool) → ((u w : ℕ) → Inside u w x y → f u w ≡ g u w) → countInBox x y f ≡ countInBox x y g
-unfolding countInBox countInRow
+unfolding countInBox
 countInBox-same x y f g same =
-    sumBelow-same _ _ y (λ j h. sumBelow-same _ _ x (λ i k. ap counted (same (suc i) (suc j) (omega arith))))
+    sumBelow-same _ _ y (λ j h. countInRow-same x (suc j) f g (λ u k l. same u (suc j) (omega arith)))
 
 -- A box of x by y has x·y cells.
 pub countInRow-bound : (x w : ℕ) (test : ℕ → ℕ → Bool) → countInRow x w test ≤ x

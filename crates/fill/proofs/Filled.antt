@@ -10,17 +10,18 @@ use lib.Dec.{eqb}
 use lib.ListN.{length, getD}
 use Rattle.laws.specs.Says.{Says}
 use Rattle.laws.proofs.Says.{says-eq, says-no, says-false}
-use Rattle.cutting.specs.Limits.{sideMax, valueMax}
+use Rattle.cutting.specs.Limits.{sideMax}
 use Rattle.cutting.specs.Piece.{Fits, Inside}
 use Rattle.cutting.specs.Candidate.{Smaller}
 use Rattle.cutting.proofs.Bound.{most, most-mono}
 use Rattle.cells.specs.Cells.{empty, cellOf, redrawn}
 use Rattle.cells.specs.Emptied.{fits}
+use Rattle.cells.proofs.Emptied.{fits-says}
 use Rattle.cells.proofs.Redrawn.{redrawn-length, redrawn-cell, redrawn-beyond, is-redrawn}
 use Rattle.points.specs.Rows.{Rows}
 use Rattle.fill.specs.Worth.{worthOf}
-use Rattle.fill.specs.Filled.{finalWithin, final, filled, Fills}
-use Rattle.fill.proofs.Worth.{worthOf-same, worthOf-most, fits-says}
+use Rattle.fill.specs.Filled.{finalWithin, final, filled, Fills, Bounded, Valued}
+use Rattle.fill.proofs.Worth.{worthOf-same, worthOf-most}
 
 -- What a cell holds once it has been asked, from what it held and its worth.
 abbrev pub settled : ℕ → ℕ → ℕ
@@ -63,14 +64,6 @@ final-only rows cell other x y own u w i = go (u + w) u w (omega arith) i
     go : (k u w : ℕ) → u + w ≤ k → Inside u w x y → other u w ≡ final rows cell u w
     go zero u w l i = absurd (omega arith)
     go (suc k) u w l i = step u w i (λ m n s. go k m n (omega arith) (omega arith))
-
--- A box whose cells are empty or within their bounds: refusal 7 does not arise.
-abbrev pub Bounded : (ℕ → ℕ → ℕ) → ℕ → ℕ → Type 0
-Bounded cell x y = (u w : ℕ) → Inside u w x y → (cell u w ≡ empty → ⊥) → cell u w ≤ most u w
-
--- The values are in range.
-abbrev pub Valued : Rows → Type 0
-Valued rows = (k : ℕ) → k < rows .count → rows .value k ≤ valueMax
 
 -- No cell within its bound is taken for an empty one.
 pub most-fits : (x y : ℕ) → x ≤ sideMax → y ≤ sideMax → most x y < empty

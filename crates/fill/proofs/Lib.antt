@@ -2,3 +2,5 @@
 pub mod Worth
 pub mod Steps
 pub mod Filled
+pub mod Growing
+pub mod Rounds

@@ -14,7 +14,7 @@ use Rattle.cutting.specs.Piece.{Inside}
 use Rattle.cells.specs.Cells.{Holds, cellOf}
 use Rattle.cells.specs.Emptied.{fits}
 use Rattle.fill.specs.Worth.{fittingValue, lineAt, lineValue, partOf, Strip}
-use Rattle.fill.proofs.Worth.{fits-says}
+use Rattle.cells.proofs.Emptied.{fits-says}
 
 pub fits-value : (p q v u w : ℕ) → p ≤ u → q ≤ w → v ≡ cond (fits p q u w) v 0
 fits-value p q v u w h k = ap (λ (b : Bool). cond b v 0) (sym (fits-says p q u w .found (record { wide = h; high = k })))

@@ -8,7 +8,6 @@ use Rattle.laws.specs.Largest.{Largest}
 use Rattle.laws.specs.Says.{Says}
 use Rattle.laws.specs.Below.{bestBelow}
 use Rattle.laws.proofs.Order.{larger}
-use Rattle.laws.proofs.Says.{says-and, says-le}
 use Rattle.laws.proofs.Below.{bestBelow-bound, bestBelow-attained, bestBelow-within, bestBelow-same}
 use Rattle.cutting.specs.Limits.{sideMax, valueMax}
 use Rattle.cutting.specs.Piece.{Lay, Turned, Fits, Inside}
@@ -17,6 +16,7 @@ use Rattle.cutting.specs.Points.{P}
 use Rattle.cutting.specs.Candidate.{Candidate, Worth, Smaller}
 use Rattle.cutting.proofs.Bound.{most, most-parts, most-mono}
 use Rattle.cells.specs.Emptied.{fits}
+use Rattle.cells.proofs.Emptied.{fits-says}
 use Rattle.points.specs.Rows.{Rows}
 use Rattle.fill.specs.Worth.{fittingValue, lineAt, lineValue, worthOf}
 
@@ -56,13 +56,6 @@ lineValue-bound marked part x (suc i) r e h l =
       ap (λ (b : Bool). cond b (part (suc i) + part (rest x (suc i))) 0) e,
       ap part (l .leaves),
     )
-
--- "p ≤ u and q ≤ w", as a test.
-pub fits-says : (p q u w : ℕ) → Says (fits p q u w) (Fits p q u w)
-unfolding fits
-fits-says p q u w =
-    let s = says-and (says-le p u) (says-le q w) in
-    record { means = λ e. record { wide = s .means e .0; high = s .means e .1 }; found = λ f. s .found (f .wide, f .high) }
 
 fitting-attained : (rows : Rows) (u w : ℕ) (S : ℕ → Type 0) → S 0 → ((k : ℕ) → k < rows .count → Fits (rows .width k) (rows .height k) u w → S (rows .value k)) → S (fittingValue (rows .width) (rows .height) (rows .value) (rows .count) u w)
 unfolding fittingValue

@@ -6,7 +6,10 @@ ghost use lib.ListN.{getD};
 ghost use Rattle.cutting.specs.Limits.{sideMax, piecesMax};
 ghost use Rattle.cutting.specs.Dissection.{Line, rest};
 ghost use Rattle.cells.specs.Emptied.{fits};
-ghost use Rattle.fill.specs.Worth.{fittingValue, lineValue, lineAt, partOf, Strip};
+ghost use Rattle.cells.specs.Cells.{cellOf};
+ghost use Rattle.points.specs.Rows.{rowsOf};
+ghost use Rattle.fill.specs.Worth.{fittingValue, lineValue, lineAt, worthOf, partOf, Strip};
+ghost use Rattle.fill.specs.Filled.{Around};
 use points::Marks;
 
 fn larger(x: u32, y: u32) -> u32
@@ -93,4 +96,27 @@ pub fn line_value(t: &[u32], a: usize, tall: bool, side: usize, x: usize, marks:
         best = larger(best, line_at(t, a, tall, side, x, marks, c));
     }
     best
+}
+
+// The worth of cell (u, w): the largest of 0, a piece that fits, and the marked lines across and up.
+pub fn worth(
+    t: &[u32],
+    a: usize,
+    u: usize,
+    w: usize,
+    n: usize,
+    widths: &[u16; 64],
+    heights: &[u16; 64],
+    values: &[u16; 64],
+    across: &Marks,
+    up: &Marks,
+) -> u32
+    requires { ⌜ Around a (now t) u w ⌝ }
+    requires { ⌜ n ≤ piecesMax ⌝ }
+    ensures { λ r. ⌜ r ≡ worthOf (rowsOf n (now (widths .entry)) (now (heights .entry)) (now (values .entry)) (now (across .entry)) (now (up .entry))) (cellOf a (now (t .entry))) u w ⌝ }
+{
+    let piece = fitting_value(n, widths, heights, values, u, w);
+    let row = line_value(t, a, false, w, u, across);
+    let column = line_value(t, a, true, u, w, up);
+    larger(piece, larger(row, column))
 }

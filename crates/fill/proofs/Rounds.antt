@@ -1,0 +1,153 @@
+-- What the code needs and gives at each cell, row and box, over the definitions.
+use Prim.Native.Nat.{ℕ, zero, suc, _+_, _-_, _*_, _/_, _≤_, _<_, max}
+use mathlib.Core.Bool.{Bool, true, false, cond}
+use mathlib.Core.Path.{_≡_, refl, sym, ap, ap₂, _∙_, subst}
+use mathlib.Core.List.{List}
+use mathlib.Core.Logic.{_⊎_, inl, inr, ⊎-elim, _≢_}
+use native.Mathlib.Omega.{arith}
+use lib.ListN.{length, getD, set}
+use Rattle.laws.proofs.Order.{le-or-lt, last-or-below}
+use Rattle.laws.proofs.Says.{says-no}
+use Rattle.cutting.specs.Limits.{sideMax, piecesMax, valueMax}
+use Rattle.cutting.specs.Piece.{Fits, Inside}
+use Rattle.cutting.specs.Dissection.{Line}
+use Rattle.cutting.specs.Candidate.{Smaller}
+use Rattle.cutting.proofs.Bound.{most, most-parts}
+use Rattle.cells.specs.Cells.{empty, place, cellOf, Holds}
+use Rattle.cells.specs.Box.{isEmpty, counted, countInRow, countInBox}
+use Rattle.cells.proofs.Places.{holds-lower, area-fits}
+use Rattle.cells.proofs.Box.{isEmpty-says, countInRow-more, countInBox-more, countInRow-same, countInRow-bound, countInBox-bound}
+use Rattle.points.specs.Rows.{Rows, rowsOf}
+use Rattle.fill.specs.Worth.{fittingValue, lineValue, worthOf, partOf, Strip}
+use Rattle.fill.specs.Filled.{final, filled, cellFilled, Full, Bounded, Around, RowReady, BoxReady}
+use Rattle.fill.proofs.Filled.{most-fits, final-most, filled-inside, filled-outside}
+use Rattle.fill.proofs.Growing.{filled-again, filled-length, filled-cell, early, old-cell}
+
+-- The two strips through a cell.
+around-row : (a : ℕ) (t : List ℕ) (u w : ℕ) → Around a t u w → Strip a t false w u
+unfolding partOf
+around-row a t u w s =
+    record {
+      holds = s .holds;
+      wide = s .wide;
+      least = s .holds .heightLeast;
+      adds = λ c r l. omega (arith, s .below c w (small c (omega arith) (omega arith)), s .below r w (small r (omega arith) (omega arith)), most-parts u w c r (omega arith), most-fits u w (omega (arith, s .wide, s .holds .widthMost)) (s .holds .heightMost));
+    }
+  where
+    small : (c : ℕ) → 1 ≤ c → c < u → Smaller c w u w
+    small c p h = record { inside = record { widthLeast = p; widthMost = omega arith; heightLeast = s .holds .heightLeast; heightMost = omega arith }; less = omega arith }
+
+around-column : (a : ℕ) (t : List ℕ) (u w : ℕ) → Around a t u w → Strip a t true u w
+unfolding partOf
+around-column a t u w s =
+    record {
+      holds = s .holds;
+      wide = s .wide;
+      least = s .least;
+      adds = λ c r l. omega (arith, s .below u c (small c (omega arith) (omega arith)), s .below u r (small r (omega arith) (omega arith)), most-parts w u c r (omega arith), most-fits u w (omega (arith, s .wide, s .holds .widthMost)) (s .holds .heightMost));
+    }
+  where
+    small : (c : ℕ) → 1 ≤ c → c < w → Smaller u c u w
+    small c p h = record { inside = record { widthLeast = s .least; widthMost = omega arith; heightLeast = p; heightMost = omega arith }; less = omega arith }
+
+pub strips : (a : ℕ) (t : List ℕ) (u w : ℕ) → Around a t u w → (Strip a t false w u × (u ≤ sideMax)) × (Strip a t true u w × (w ≤ sideMax))
+strips a t u w s = ((around-row a t u w s, omega (arith, s .wide, s .holds .widthMost)), (around-column a t u w s, s .holds .heightMost))
+
+-- The three parts of a cell's worth, joined.
+pub worth-joined : (n : ℕ) (widths heights values : List ℕ) (across up : List Bool) (a : ℕ) (t : List ℕ) (u w : ℕ) {piece row column lines r : ℕ} → piece ≡ fittingValue (λ k. getD widths k 0) (λ k. getD heights k 0) (λ k. getD values k 0) n u w → row ≡ lineValue (λ k. getD across k false) (partOf a t false w) u → column ≡ lineValue (λ k. getD up k false) (partOf a t true u) w → lines ≡ max row column → r ≡ max piece lines → r ≡ worthOf (rowsOf n widths heights values across up) (cellOf a t) u w
+unfolding worthOf rowsOf partOf
+worth-joined n widths heights values across up a t u w p e f g h = h ∙ ap₂ max p (g ∙ ap₂ max e f)
+
+-- A cell that is not empty is left, an empty one is worked out.
+pub cell-kept : (rows : Rows) (a u w : ℕ) (t : List ℕ) {v : ℕ} → v ≡ cellOf a t u w → (v ≡ empty → ⊥) → (0 ≡ counted (isEmpty a t u w)) × (t ≡ cellFilled rows a u w t)
+unfolding cellFilled
+cell-kept rows a u w t e h =
+    let s = says-no (isEmpty-says a t u w) (λ k. h (e ∙ k)) in
+    (ap counted (sym s), ap (λ (b : Bool). cond b (set t (place a u w) (worthOf rows (cellOf a t) u w)) t) (sym s))
+
+pub cell-worked : (rows : Rows) (a u w : ℕ) (t t' : List ℕ) {v m : ℕ} → v ≡ cellOf a t u w → v ≡ empty → m ≡ worthOf rows (cellOf a t) u w → t' ≡ set t (place a u w) m → (1 ≡ counted (isEmpty a t u w)) × (t' ≡ cellFilled rows a u w t)
+unfolding cellFilled
+cell-worked rows a u w t t' e h g k =
+    let s = isEmpty-says a t u w .found (sym e ∙ h) in
+    (ap counted (sym s), k ∙ (ap (set t (place a u w)) g ∙ ap (λ (b : Bool). cond b (set t (place a u w) (worthOf rows (cellOf a t) u w)) t) (sym s)))
+
+-- Along a row: the first i cells of row w are done.
+module _ (rows : Rows) (a b x w : ℕ) (t : List ℕ) (ready : RowReady rows a b x w t) (i : ℕ) (more : i < x) where
+  full : Full a t (i + 1) (w - 1)
+  full u v j = ready .full u v (omega arith)
+
+  pub row-around : {now : List ℕ} → now ≡ filled rows a b i w t → Around a now (i + 1) w
+  row-around e =
+      subst (λ (l : List ℕ). Around a l (i + 1) w) (sym e)
+      (record {
+        holds = record { widthLeast = h .widthLeast; widthMost = h .widthMost; heightLeast = h .heightLeast; heightMost = h .heightMost; room = omega (arith, h .room, filled-length rows a b i w t) };
+        least = omega arith;
+        wide = omega (arith, ready .inside .widthMost);
+        below = λ m n s. subst (λ (v : ℕ). v ≤ most m n) (sym (early rows a b t (ready .holds .room) i w (omega (arith, ready .inside .widthMost)) (ready .inside .heightLeast) (ready .inside .heightMost) full m n (s .inside) (λ k. omega (arith, s .less, k .0, k .1)))) (final-most rows (cellOf a t) x w (ready .valued) (ready .bounded) m n (omega (arith, s .inside)));
+      })
+    where
+      h : Holds a w t
+      h = holds-lower w (ready .holds) (ready .inside .heightLeast) (ready .inside .heightMost)
+
+  pub row-more : {now next : List ℕ} → now ≡ filled rows a b i w t → next ≡ cellFilled rows a (i + 1) w now → next ≡ filled rows a b (i + 1) w t
+  row-more e f =
+      f ∙ (ap (cellFilled rows a (i + 1) w) e ∙ filled-cell rows a b t (ready .holds .room) i w (omega (arith, ready .inside .widthMost)) (ready .inside .heightLeast) (ready .inside .heightMost) full)
+
+  pub row-count : {now : List ℕ} {m r : ℕ} → now ≡ filled rows a b i w t → m ≡ countInRow i w (isEmpty a t) → r ≡ counted (isEmpty a now (i + 1) w) → m + r ≡ countInRow (i + 1) w (isEmpty a t)
+  unfolding isEmpty
+  row-count e f g =
+      ap₂ _+_ f (g ∙ (ap (λ (l : List ℕ). counted (isEmpty a l (i + 1) w)) e ∙ ap (λ (v : ℕ). counted (lib.Dec.eqb v empty)) (old-cell rows a b t (ready .holds .room) i w (omega (arith, ready .inside .widthMost)) (ready .inside .heightLeast) (ready .inside .heightMost) full)))
+      ∙ sym (countInRow-more i w (isEmpty a t))
+
+  pub row-within : {now : List ℕ} {m r : ℕ} → now ≡ filled rows a b i w t → m ≡ countInRow i w (isEmpty a t) → r ≡ counted (isEmpty a now (i + 1) w) → m + r ≤ i + 1
+  row-within e f g = subst (λ (k : ℕ). k ≤ i + 1) (sym (row-count e f g)) (countInRow-bound (i + 1) w (isEmpty a t))
+
+-- Up the rows: the first j rows of the box are done.
+module _ (rows : Rows) (a b x y : ℕ) (t : List ℕ) (ready : BoxReady rows a b x y t) (j : ℕ) (more : j < y) where
+  wide : x ≤ a
+  wide = ready .inside .widthMost
+
+  high : j ≤ b
+  high = omega (arith, ready .inside .heightMost)
+
+  next-cell : (u : ℕ) → 1 ≤ u → u ≤ x → cellOf a (filled rows a b x j t) u (j + 1) ≡ cellOf a t u (j + 1)
+  next-cell u p h = filled-outside rows a b x j t (ready .holds .room) wide high u (j + 1) (omega (arith, ready .inside)) (λ f. omega (arith, f .high))
+
+  done-most : (u v : ℕ) → Inside u v x j → cellOf a (filled rows a b x j t) u v ≤ most u v
+  done-most u v i =
+      subst (λ (k : ℕ). k ≤ most u v) (sym (filled-inside rows a b x j t (ready .holds .room) wide high u v i))
+      (final-most rows (cellOf a t) x y (ready .valued) (ready .bounded) u v (omega arith))
+
+  pub box-row : {now : List ℕ} → now ≡ filled rows a b x j t → RowReady rows a b x (j + 1) now
+  box-row e =
+      subst (RowReady rows a b x (j + 1)) (sym e)
+      (record {
+        holds = record { widthLeast = h .widthLeast; widthMost = h .widthMost; heightLeast = h .heightLeast; heightMost = h .heightMost; room = omega (arith, h .room, filled-length rows a b x j t) };
+        inside = omega (arith, ready .inside);
+        full = λ u v i k. omega (arith, done-most u v (omega arith), most-fits u v (omega (arith, i .widthMost, ready .inside, h)) (omega (arith, i .heightMost, ready .inside, h)), k);
+        bounded = λ u v i k. ⊎-elim (λ g. done-most u v (omega arith)) (λ g. row u v i g k) (le-or-lt v j);
+        valued = ready .valued;
+      })
+    where
+      h : Holds a b t
+      h = ready .holds
+
+      row : (u v : ℕ) → Inside u v x (j + 1) → j < v → (cellOf a (filled rows a b x j t) u v ≡ empty → ⊥) → cellOf a (filled rows a b x j t) u v ≤ most u v
+      row u v i g k =
+          let here : cellOf a (filled rows a b x j t) u v ≡ cellOf a t u v = filled-outside rows a b x j t (h .room) wide high u v (omega (arith, ready .inside)) (λ f. omega (arith, f .high)) in
+          subst (λ (m : ℕ). m ≤ most u v) (sym here) (ready .bounded u v (omega arith) (λ q. k (here ∙ q)))
+
+  pub box-more : {now next : List ℕ} → now ≡ filled rows a b x j t → next ≡ filled rows a b x (j + 1) now → next ≡ filled rows a b x (j + 1) t
+  box-more e f =
+      f ∙ (ap (filled rows a b x (j + 1)) e ∙ filled-again rows a b t (ready .holds .room) x j x (j + 1) (omega arith) (omega arith) wide (omega (arith, ready .inside .heightMost)))
+
+  pub box-count : {now : List ℕ} {m r : ℕ} → now ≡ filled rows a b x j t → m ≡ countInBox x j (isEmpty a t) → r ≡ countInRow x (j + 1) (isEmpty a now) → m + r ≡ countInBox x (j + 1) (isEmpty a t)
+  unfolding isEmpty
+  box-count e f g =
+      ap₂ _+_ f (g ∙ (ap (λ (l : List ℕ). countInRow x (j + 1) (isEmpty a l)) e ∙ countInRow-same x (j + 1) _ _ (λ u p h. ap (λ (v : ℕ). lib.Dec.eqb v empty) (next-cell u p h))))
+      ∙ sym (countInBox-more x j (isEmpty a t))
+
+  pub box-within : {now : List ℕ} {m r : ℕ} → now ≡ filled rows a b x j t → m ≡ countInBox x j (isEmpty a t) → r ≡ countInRow x (j + 1) (isEmpty a now) → m + r ≤ sideMax * sideMax
+  box-within e f g =
+      subst (λ (k : ℕ). k ≤ sideMax * sideMax) (sym (box-count e f g))
+      (omega (arith, countInBox-bound x (j + 1) (isEmpty a t), area-fits {u = x} {w = j + 1} (omega (arith, wide, ready .holds)) (omega (arith, high, more, ready .inside, ready .holds))))

@@ -1,0 +1,75 @@
+-- `fill_box`: the loop's invariant is that the first j rows of the box are done.
+use Prim.Native.Nat.{_≤_, _-_}
+use mathlib.Core.Path.{_≡_, sym}
+use mathlib.Core.Logic.{inr}
+use native.Mathlib.Omega.{arith}
+use lib.ListN.{length}
+use Rattle.cells.specs.Box.{isEmpty, countInBox}
+use Rattle.cells.proofs.Box.{countInBox-none}
+use Rattle.points.specs.Rows.{rowsOf}
+use Rattle.fill.specs.Filled.{filled}
+use Rattle.fill.proofs.Growing.{filled-none}
+use Rattle.fill.proofs.Rounds.{box-row, box-more, box-count, box-within}
+use Rattle.fill.proofs.fill_box.Statement.{statement}
+use Rattle.fill.proofs.fill_box.Tie as tie
+use Rattle.fill.proofs.fill_box.Reads as reads
+use Rattle.fill.proofs.fill_box.Lts as lts
+use Rattle.fill.proofs.fill_row.Reads as fill-row-reads
+
+abbrev Inv-loop : tie.InvT-loop
+Inv-loop t₀ a b x y n widths heights values across up worked₀ j₀ t worked j =
+    (j ≤ y) × (length t ≡ length t₀) × (t ≡ filled (rowsOf n widths heights values across up) a b x j t₀) × (worked ≡ countInBox x j (isEmpty a t₀))
+
+abbrev μ-loop : tie.MeasureT-loop
+μ-loop t₀ a b x y n widths heights values across up worked₀ j₀ t worked j = y - j
+
+loop-holds : tie.Need-loop-holds Inv-loop μ-loop
+loop-holds c = (omega arith, omega arith, filled-none _ _ _ _ _ _ (inr (omega arith)), sym (countInBox-none _ _))
+
+add-fill-row : tie.Need-add-fill-row Inv-loop μ-loop
+add-fill-row c = omega arith
+
+fill-row-requires : tie.Need-fill-row-requires Inv-loop μ-loop
+fill-row-requires c κs = (box-row _ _ _ _ _ _ (c .before .before .before .before .pre .0) _ (omega arith) (c .before .before .loop .inv .2), omega arith)
+
+add-worked : tie.Need-add-worked Inv-loop μ-loop
+add-worked c =
+    let inv = c .before .before .before .before .before .loop .inv in
+    omega (arith, box-within _ _ _ _ _ _ (c .before .before .before .before .before .before .before .pre .0) _ (omega arith) (inv .2) (inv .3) (c .before .before .fill-row .ensures .0))
+
+add-j : tie.Need-add-j Inv-loop μ-loop
+add-j c = omega arith
+
+loop-less : tie.Need-loop-less Inv-loop μ-loop
+loop-less c = omega arith
+
+loop-again : tie.Need-loop-again Inv-loop μ-loop
+loop-again c =
+    let inv = c .before .before .before .before .before .loop .inv in
+    let ready = c .before .before .before .before .before .before .before .pre .0 in
+    (omega arith, omega arith, box-more _ _ _ _ _ _ ready _ (omega arith) (inv .2) (c .before .before .fill-row .ensures .1), box-count _ _ _ _ _ _ ready _ (omega arith) (inv .2) (inv .3) (c .before .before .fill-row .ensures .0))
+
+same-length : tie.Need-same-length Inv-loop μ-loop
+same-length c = omega arith
+
+returns : tie.Need-returns Inv-loop μ-loop
+returns c =
+    let inv = c .before .loop .inv in
+    let end : c .before .loop .j ≡ c .before .before .before .args .y = omega arith in
+    rw (← end) (inv .3, inv .2)
+
+pub fill-box-spec : {M : Type 1} → statement M
+fill-box-spec =
+    tie.close
+    (tie.spec
+    Inv-loop
+    μ-loop
+    loop-holds
+    add-fill-row
+    fill-row-requires
+    add-worked
+    add-j
+    loop-less
+    loop-again
+    same-length
+    returns)

@@ -5,7 +5,8 @@ use mathlib.Core.Path.{_≡_, refl, sym, ap, ap₂, subst, _∙_}
 use mathlib.Core.List.{List, [], _∷_, _++_, append-assoc, append-nil}
 use native.Mathlib.Omega.{arith}
 use lib.ListN.{length, getD, take, drop, length-append, length-drop, take-append-drop}
-use lib.Seq.{drop-drop, take-add, drop-cons, take-all, drop-at}
+use native.Mathlib.Nat.{add-zero}
+use lib.Seq.{drop-drop, drop-nil, drop-append-add, take-add, drop-cons, take-all, drop-at}
 use Rattle.laws.specs.Says.{Says}
 use Rattle.laws.specs.ByIndex.{byIndex}
 use Rattle.laws.specs.Put.{put}
@@ -122,3 +123,146 @@ job-in-done s {w} {h} {n} {records} e f g i =
     is-jobOf w h n pieces records (λ k. recordOf (pieceIn s k)) (g ∙ sym (byIndex-length (pieceIn s) (countIn s))) i
     (λ k l. ap recordOf (sym (byIndex-at (pieceIn s) (countIn s) k noPiece (omega arith))))
     ∙ ap₂ (λ (a b : ℕ). jobOf a b pieces) e f
+
+-- Reading and writing are inverse: three numbers behind one another, a piece, the pieces, the block.
+
+module _ (a b d : ℕ) (r : List ℕ) where
+  abbrev three : List ℕ
+  three = bytes2 a ++ (bytes2 b ++ bytes2 d) ++ r
+
+  regrouped : three ≡ bytes2 a ++ (bytes2 b ++ (bytes2 d ++ r))
+  regrouped = simp append-assoc
+
+  three-first : a < 65_536 → number2Of three 0 ≡ a
+  three-first h = ap (λ (l : List ℕ). number2Of l 0) regrouped ∙ number2-bytes a (bytes2 b ++ (bytes2 d ++ r)) h
+
+  three-second : b < 65_536 → number2Of three 2 ≡ b
+  three-second h = ap (λ (l : List ℕ). number2Of l 2) regrouped ∙ number2-behind (bytes2 a) b (bytes2 d ++ r) 2 (bytes2-length a) h
+
+  three-third : d < 65_536 → number2Of three 4 ≡ d
+  three-third h =
+      let four : length (bytes2 a ++ bytes2 b) ≡ 4 = simp length-append (omega (arith, bytes2-length a, bytes2-length b)) in
+      ap (λ (l : List ℕ). number2Of l 4) (regrouped ∙ sym (append-assoc (bytes2 a) (bytes2 b) (bytes2 d ++ r)))
+      ∙ number2-behind (bytes2 a ++ bytes2 b) d r 4 four h
+
+-- The numbers of three fields are written as the bytes that stand there.
+three-written : (s : List ℕ) (at : ℕ) → Bytes s → at + 6 ≤ length s → bytes2 (number2Of s at) ++ (bytes2 (number2Of s (at + 2)) ++ bytes2 (number2Of s (at + 4))) ≡ take 6 (drop at s)
+three-written s at b h =
+    let first : bytes2 (number2Of s at) ≡ take 2 (drop at s) = bytes2-number s at b (omega arith) in
+    let second : bytes2 (number2Of s (at + 2)) ≡ take 2 (drop 2 (drop at s)) = bytes2-number s (at + 2) b (omega arith) ∙ ap (take 2) (sym (drop-drop 2 at s)) in
+    let four : at + 2 + 2 ≡ at + 4 = omega arith in
+    let third : bytes2 (number2Of s (at + 4)) ≡ take 2 (drop 2 (drop 2 (drop at s))) =
+        bytes2-number s (at + 4) b (omega arith) ∙ ap (take 2) (sym (ap (drop 2) (drop-drop 2 at s) ∙ (drop-drop 2 (at + 2) s ∙ ap (λ (k : ℕ). drop k s) four))) in
+    ap₂ _++_ first (ap₂ _++_ second third ∙ sym (take-add 2 2 (drop 2 (drop at s)))) ∙ sym (take-add 2 4 (drop at s))
+
+-- What stands before a piece does not matter.
+piece-drop : (s : List ℕ) (at : ℕ) → pieceFrom s at ≡ pieceFrom (drop at s) 0
+unfolding pieceFrom
+piece-drop s at = λ i. record { width = number2-drop s at i; height = behind 2 i; value = behind 4 i }
+  where
+    behind : (n : ℕ) → number2Of s (at + n) ≡ number2Of (drop at s) n
+    behind n = number2-drop s (at + n) ∙ (ap (λ (l : List ℕ). number2Of l 0) (sym (drop-drop n at s)) ∙ sym (number2-drop (drop at s) n))
+
+-- The bytes of a piece are read as that piece.
+pub piece-bytes : (p : Piece) (r : List ℕ) → p .width < 65_536 → p .height < 65_536 → p .value < 65_536 → pieceFrom (bytesOfPiece p ++ r) 0 ≡ p
+unfolding pieceFrom bytesOfPiece
+piece-bytes p r wide high worth =
+    λ i. record {
+      width = three-first (p .width) (p .height) (p .value) r wide i;
+      height = three-second (p .width) (p .height) (p .value) r high i;
+      value = three-third (p .width) (p .height) (p .value) r worth i;
+    }
+
+-- Behind the bytes of k pieces stand those of the others.
+pub pieces-drop : (k : ℕ) (pieces : List Piece) → drop (k * pieceBytes) (bytesOfPieces pieces) ≡ bytesOfPieces (drop k pieces)
+unfolding bytesOfPieces
+pieces-drop zero pieces = refl
+pieces-drop (suc k) [] = drop-nil (suc k * pieceBytes)
+pieces-drop (suc k) (p ∷ pieces) =
+    let past : suc k * pieceBytes ≡ length (bytesOfPiece p) + k * pieceBytes = omega (arith, piece-length p) in
+    ap (λ (n : ℕ). drop n (bytesOfPiece p ++ bytesOfPieces pieces)) past
+    ∙ (drop-append-add (bytesOfPiece p) (bytesOfPieces pieces) (k * pieceBytes) ∙ pieces-drop k pieces)
+
+-- The block of a job is read as that job.
+module _ (width height : ℕ) (pieces : List Piece) (fits : InFields width height pieces) where
+  abbrev bytes : List ℕ
+  bytes = block width height pieces
+
+  width-read : number2Of bytes 0 ≡ width
+  unfolding block bytesOfHead
+  width-read = three-first width height (length pieces) (bytesOfPieces pieces) (fits .width)
+
+  height-read : number2Of bytes 2 ≡ height
+  unfolding block bytesOfHead
+  height-read = three-second width height (length pieces) (bytesOfPieces pieces) (fits .height)
+
+  count-read : countIn bytes ≡ length pieces
+  unfolding block bytesOfHead
+  count-read = three-third width height (length pieces) (bytesOfPieces pieces) (omega (arith, fits .count))
+
+  piece-read : (k : ℕ) → k < length pieces → pieceIn bytes k ≡ getD pieces k noPiece
+  unfolding block bytesOfPieces
+  piece-read k h =
+      let place : drop (blockLength k) bytes ≡ bytesOfPieces (drop k pieces) =
+          sym (drop-drop (k * pieceBytes) headBytes bytes)
+          ∙ (ap (drop (k * pieceBytes)) (drop-at (bytesOfHead width height (length pieces)) (bytesOfPieces pieces) headBytes (head-length width height (length pieces)))
+            ∙ pieces-drop k pieces) in
+      piece-drop bytes (blockLength k)
+      ∙ (ap (λ (l : List ℕ). pieceFrom l 0) (place ∙ ap bytesOfPieces (drop-cons pieces k noPiece h))
+        ∙ piece-bytes (getD pieces k noPiece) (bytesOfPieces (drop (suc k) pieces)) (fits .pieceWidth k) (fits .pieceHeight k) (fits .pieceValue k))
+
+  pub block-shape : BlockShape bytes
+  block-shape =
+      let long : length bytes ≡ blockLength (length pieces) = block-length width height pieces in
+      record { head = omega arith; most = omega (arith, count-read, fits .count); whole = long ∙ ap blockLength (sym count-read) }
+
+  pub block-read : jobIn bytes ≡ jobOf width height pieces
+  unfolding jobIn
+  block-read =
+      let read : byIndex (pieceIn bytes) (countIn bytes) ≡ pieces =
+          ap (byIndex (pieceIn bytes)) count-read ∙ sym (is-byIndex (pieceIn bytes) (length pieces) pieces noPiece refl (λ k h. sym (piece-read k h))) in
+      λ i. jobOf (width-read i) (height-read i) (read i)
+
+  -- Read back, it is accepted.
+  pub from-block-of-block : fromBlock bytes ≡ record { ok = true; job = jobOf width height pieces }
+  from-block-of-block = sym (from-block-yes bytes {b = true} (sym (shape-says bytes .found block-shape)) refl (sym block-read))
+
+-- No two jobs have the same block.
+pub block-injective : (a b : ℕ) (s : List Piece) (c d : ℕ) (t : List Piece) → InFields a b s → InFields c d t → block a b s ≡ block c d t → jobOf a b s ≡ jobOf c d t
+block-injective a b s c d t f g e = sym (block-read a b s f) ∙ (ap jobIn e ∙ block-read c d t g)
+
+pub tidy-injective : (job other : Job) → Tidy job → Tidy other → InFields (job .width) (job .height) (piecesOf job) → InFields (other .width) (other .height) (piecesOf other) → blockOf job ≡ blockOf other → job ≡ other
+tidy-injective job other t u f g e =
+    t .zeros ∙ (block-injective (job .width) (job .height) (piecesOf job) (other .width) (other .height) (piecesOf other) f g e ∙ sym (u .zeros))
+
+-- What is read as a block is the block of what was read.
+pub piece-written : (s : List ℕ) (at : ℕ) → Bytes s → at + pieceBytes ≤ length s → bytesOfPiece (pieceFrom s at) ≡ take pieceBytes (drop at s)
+unfolding pieceFrom bytesOfPiece
+piece-written s at b h = three-written s at b h
+
+pub pieces-written : (s : List ℕ) (n at : ℕ) → Bytes s → at + n * pieceBytes ≤ length s → bytesOfPieces (byIndex (λ k. pieceFrom s (at + k * pieceBytes)) n) ≡ take (n * pieceBytes) (drop at s)
+unfolding bytesOfPieces byIndex
+pieces-written s zero at b h = refl
+pieces-written s (suc n) at b h =
+    let next : byIndex (λ k. pieceFrom s (at + suc k * pieceBytes)) n ≡ byIndex (λ k. pieceFrom s (at + pieceBytes + k * pieceBytes)) n =
+        byIndex-same (λ k. pieceFrom s (at + suc k * pieceBytes)) (λ k. pieceFrom s (at + pieceBytes + k * pieceBytes)) n (λ k l. ap (pieceFrom s) (omega arith)) in
+    let first : bytesOfPiece (pieceFrom s (at + 0)) ≡ take pieceBytes (drop at s) =
+        ap (λ (k : ℕ). bytesOfPiece (pieceFrom s k)) (add-zero at) ∙ piece-written s at b (omega arith) in
+    let others : bytesOfPieces (byIndex (λ k. pieceFrom s (at + suc k * pieceBytes)) n) ≡ take (n * pieceBytes) (drop pieceBytes (drop at s)) =
+        ap bytesOfPieces next ∙ (pieces-written s n (at + pieceBytes) b (omega arith) ∙ ap (take (n * pieceBytes)) (sym (drop-drop pieceBytes at s))) in
+    let whole : pieceBytes + n * pieceBytes ≡ suc n * pieceBytes = omega arith in
+    ap₂ _++_ first others ∙ (sym (take-add pieceBytes (n * pieceBytes) (drop at s)) ∙ ap (λ (k : ℕ). take k (drop at s)) whole)
+
+pub block-written : (s : List ℕ) → Bytes s → BlockShape s → s ≡ blockOf (jobIn s)
+unfolding jobIn jobOf block bytesOfHead
+block-written s b h =
+    let pieces : List Piece = byIndex (pieceIn s) (countIn s) in
+    let n : length pieces ≡ countIn s = byIndex-length (pieceIn s) (countIn s) in
+    let same : piecesOf (jobIn s) ≡ pieces = pieces-jobOf (number2Of s 0) (number2Of s 2) pieces (omega (arith, h .most)) in
+    let rest : bytesOfPieces pieces ≡ drop headBytes s =
+        pieces-written s (countIn s) headBytes b (omega (arith, h .whole))
+        ∙ take-all (countIn s * pieceBytes) (drop headBytes s) (omega (arith, length-drop headBytes s, h .whole)) in
+    sym
+    (ap (block (number2Of s 0) (number2Of s 2)) same
+    ∙ (ap₂ (λ (k : ℕ) (l : List ℕ). bytesOfHead (number2Of s 0) (number2Of s 2) k ++ l) n rest
+      ∙ (ap (λ (l : List ℕ). l ++ drop headBytes s) (three-written s 0 b (omega (arith, h .head))) ∙ take-append-drop headBytes s)))

@@ -1,16 +1,18 @@
 -- The laws of the job block: its length, how it is written piece by piece, and that reading and writing are inverse.
-use Prim.Native.Nat.{ℕ, zero, suc, _+_, _*_, _-_, _≤_, _<_}
+use Prim.Native.Nat.{ℕ, zero, suc, _+_, _*_, _≤_, _<_}
 use mathlib.Core.Bool.{Bool, true, false, not, cond}
 use mathlib.Core.Path.{_≡_, refl, sym, ap, ap₂, subst, _∙_}
+use mathlib.Core.Logic.{_⊎_, inl, inr}
 use mathlib.Core.List.{List, [], _∷_, _++_, append-assoc, append-nil}
 use native.Mathlib.Omega.{arith}
-use lib.ListN.{length, getD, take, drop, length-append, length-drop, take-append-drop}
+use lib.ListN.{length, getD, take, drop, length-append, length-drop, take-append-drop, List·getD-eq-default}
 use native.Mathlib.Nat.{add-zero}
 use lib.Seq.{drop-drop, drop-nil, drop-append-add, take-add, drop-cons, take-all, drop-at}
 use Rattle.laws.specs.Says.{Says}
 use Rattle.laws.specs.ByIndex.{byIndex}
 use Rattle.laws.specs.Put.{put}
 use Rattle.laws.specs.Filled.{filled}
+use Rattle.laws.proofs.Order.{le-or-lt}
 use Rattle.laws.proofs.Says.{says-le, says-eq, says-and, says-iff}
 use Rattle.laws.proofs.Tests.{not-true, not-false}
 use Rattle.laws.proofs.ByIndex.{byIndex-length, byIndex-at, byIndex-more, byIndex-same, is-byIndex}
@@ -18,13 +20,16 @@ use Rattle.laws.proofs.Put.{put-none, put-next}
 use Rattle.fields.specs.Number.{number2Of, bytes2, Bytes}
 use Rattle.fields.proofs.Number.{bytes2-length, number2-drop, number2-bytes, number2-behind, bytes2-number}
 use Rattle.cutting.specs.Limits.{piecesMax}
+use Rattle.cutting.specs.Sheets.{K1}
 use Rattle.cutting.specs.Piece.{Piece, noPiece}
 use Rattle.job.specs.declared.Piece.{Piece as Record}
 use Rattle.job.specs.declared.Job.{Job}
 use Rattle.job.specs.declared.Blocked.{Blocked}
 use Rattle.job.specs.Job.{pieceOf, recordOf, noRecord, piecesOf, jobOf, zeroJob, Tidy}
 use Rattle.job.specs.Block.{headBytes, pieceBytes, blockLength, bytesOfPiece, bytesOfPieces, bytesOfHead, block, blockOf, countIn, pieceFrom, pieceIn, jobIn, BlockShape, blockShape, fromBlock, InFields}
-use Rattle.job.proofs.Pieces.{is-jobOf, pieces-jobOf}
+use Rattle.job.specs.Range.{JobInRange}
+use Rattle.job.proofs.Range.{in-range-each}
+use Rattle.job.proofs.Pieces.{pieces-length, is-jobOf, pieces-jobOf}
 
 -- Lengths.
 
@@ -152,7 +157,7 @@ three-written s at b h =
     let second : bytes2 (number2Of s (at + 2)) ≡ take 2 (drop 2 (drop at s)) = bytes2-number s (at + 2) b (omega arith) ∙ ap (take 2) (sym (drop-drop 2 at s)) in
     let four : at + 2 + 2 ≡ at + 4 = omega arith in
     let third : bytes2 (number2Of s (at + 4)) ≡ take 2 (drop 2 (drop 2 (drop at s))) =
-        bytes2-number s (at + 4) b (omega arith) ∙ ap (take 2) (sym (ap (drop 2) (drop-drop 2 at s) ∙ (drop-drop 2 (at + 2) s ∙ ap (λ (k : ℕ). drop k s) four))) in
+    bytes2-number s (at + 4) b (omega arith) ∙ ap (take 2) (sym (ap (drop 2) (drop-drop 2 at s) ∙ (drop-drop 2 (at + 2) s ∙ ap (λ (k : ℕ). drop k s) four))) in
     ap₂ _++_ first (ap₂ _++_ second third ∙ sym (take-add 2 2 (drop 2 (drop at s)))) ∙ sym (take-add 2 4 (drop at s))
 
 -- What stands before a piece does not matter.
@@ -204,12 +209,12 @@ module _ (width height : ℕ) (pieces : List Piece) (fits : InFields width heigh
   unfolding block bytesOfPieces
   piece-read k h =
       let place : drop (blockLength k) bytes ≡ bytesOfPieces (drop k pieces) =
-          sym (drop-drop (k * pieceBytes) headBytes bytes)
-          ∙ (ap (drop (k * pieceBytes)) (drop-at (bytesOfHead width height (length pieces)) (bytesOfPieces pieces) headBytes (head-length width height (length pieces)))
-            ∙ pieces-drop k pieces) in
+      sym (drop-drop (k * pieceBytes) headBytes bytes)
+      ∙ (ap (drop (k * pieceBytes)) (drop-at (bytesOfHead width height (length pieces)) (bytesOfPieces pieces) headBytes (head-length width height (length pieces)))
+      ∙ pieces-drop k pieces) in
       piece-drop bytes (blockLength k)
       ∙ (ap (λ (l : List ℕ). pieceFrom l 0) (place ∙ ap bytesOfPieces (drop-cons pieces k noPiece h))
-        ∙ piece-bytes (getD pieces k noPiece) (bytesOfPieces (drop (suc k) pieces)) (fits .pieceWidth k) (fits .pieceHeight k) (fits .pieceValue k))
+      ∙ piece-bytes (getD pieces k noPiece) (bytesOfPieces (drop (suc k) pieces)) (fits .pieceWidth k) (fits .pieceHeight k) (fits .pieceValue k))
 
   pub block-shape : BlockShape bytes
   block-shape =
@@ -220,7 +225,7 @@ module _ (width height : ℕ) (pieces : List Piece) (fits : InFields width heigh
   unfolding jobIn
   block-read =
       let read : byIndex (pieceIn bytes) (countIn bytes) ≡ pieces =
-          ap (byIndex (pieceIn bytes)) count-read ∙ sym (is-byIndex (pieceIn bytes) (length pieces) pieces noPiece refl (λ k h. sym (piece-read k h))) in
+      ap (byIndex (pieceIn bytes)) count-read ∙ sym (is-byIndex (pieceIn bytes) (length pieces) pieces noPiece refl (λ k h. sym (piece-read k h))) in
       λ i. jobOf (width-read i) (height-read i) (read i)
 
   -- Read back, it is accepted.
@@ -245,11 +250,11 @@ unfolding bytesOfPieces byIndex
 pieces-written s zero at b h = refl
 pieces-written s (suc n) at b h =
     let next : byIndex (λ k. pieceFrom s (at + suc k * pieceBytes)) n ≡ byIndex (λ k. pieceFrom s (at + pieceBytes + k * pieceBytes)) n =
-        byIndex-same (λ k. pieceFrom s (at + suc k * pieceBytes)) (λ k. pieceFrom s (at + pieceBytes + k * pieceBytes)) n (λ k l. ap (pieceFrom s) (omega arith)) in
+    byIndex-same (λ k. pieceFrom s (at + suc k * pieceBytes)) (λ k. pieceFrom s (at + pieceBytes + k * pieceBytes)) n (λ k l. ap (pieceFrom s) (omega arith)) in
     let first : bytesOfPiece (pieceFrom s (at + 0)) ≡ take pieceBytes (drop at s) =
-        ap (λ (k : ℕ). bytesOfPiece (pieceFrom s k)) (add-zero at) ∙ piece-written s at b (omega arith) in
+    ap (λ (k : ℕ). bytesOfPiece (pieceFrom s k)) (add-zero at) ∙ piece-written s at b (omega arith) in
     let others : bytesOfPieces (byIndex (λ k. pieceFrom s (at + suc k * pieceBytes)) n) ≡ take (n * pieceBytes) (drop pieceBytes (drop at s)) =
-        ap bytesOfPieces next ∙ (pieces-written s n (at + pieceBytes) b (omega arith) ∙ ap (take (n * pieceBytes)) (sym (drop-drop pieceBytes at s))) in
+    ap bytesOfPieces next ∙ (pieces-written s n (at + pieceBytes) b (omega arith) ∙ ap (take (n * pieceBytes)) (sym (drop-drop pieceBytes at s))) in
     let whole : pieceBytes + n * pieceBytes ≡ suc n * pieceBytes = omega arith in
     ap₂ _++_ first others ∙ (sym (take-add pieceBytes (n * pieceBytes) (drop at s)) ∙ ap (λ (k : ℕ). take k (drop at s)) whole)
 
@@ -260,9 +265,39 @@ block-written s b h =
     let n : length pieces ≡ countIn s = byIndex-length (pieceIn s) (countIn s) in
     let same : piecesOf (jobIn s) ≡ pieces = pieces-jobOf (number2Of s 0) (number2Of s 2) pieces (omega (arith, h .most)) in
     let rest : bytesOfPieces pieces ≡ drop headBytes s =
-        pieces-written s (countIn s) headBytes b (omega (arith, h .whole))
-        ∙ take-all (countIn s * pieceBytes) (drop headBytes s) (omega (arith, length-drop headBytes s, h .whole)) in
+    pieces-written s (countIn s) headBytes b (omega (arith, h .whole))
+    ∙ take-all (countIn s * pieceBytes) (drop headBytes s) (omega (arith, length-drop headBytes s, h .whole)) in
     sym
     (ap (block (number2Of s 0) (number2Of s 2)) same
     ∙ (ap₂ (λ (k : ℕ) (l : List ℕ). bytesOfHead (number2Of s 0) (number2Of s 2) k ++ l) n rest
-      ∙ (ap (λ (l : List ℕ). l ++ drop headBytes s) (three-written s 0 b (omega (arith, h .head))) ∙ take-append-drop headBytes s)))
+    ∙ (ap (λ (l : List ℕ). l ++ drop headBytes s) (three-written s 0 b (omega (arith, h .head))) ∙ take-append-drop headBytes s)))
+
+-- A job in range fits its fields.
+abbrev Small : Piece → Type 0
+Small p = (p .width < 65_536) × (p .height < 65_536) × (p .value < 65_536)
+
+pub range-fits : (job : Job) → JobInRange job → InFields (job .width) (job .height) (piecesOf job)
+range-fits job range =
+    record {
+      width = omega (arith, range .widthMost);
+      height = omega (arith, range .heightMost);
+      count = omega (arith, range .countMost, pieces-length job);
+      pieceWidth = λ k. omega (arith, each k (le-or-lt (length (piecesOf job)) k) .0);
+      pieceHeight = λ k. omega (arith, each k (le-or-lt (length (piecesOf job)) k) .1);
+      pieceValue = λ k. omega (arith, each k (le-or-lt (length (piecesOf job)) k) .2);
+    }
+  where
+    each : (k : ℕ) → (length (piecesOf job) ≤ k) ⊎ (k < length (piecesOf job)) → Small (getD (piecesOf job) k noPiece)
+    each k (inl h) = subst Small (sym (List·getD-eq-default (piecesOf job) noPiece h)) (omega arith, omega arith, omega arith)
+    each k (inr h) =
+        let i = in-range-each (piecesOf job) (range .pieces) k h in
+        (omega (arith, i .widthMost), omega (arith, i .heightMost), omega (arith, i .valueMost))
+
+-- K4's file begins with its block, and K1's block as document 01 describes it.
+pub k4-block : block 1 1 [] ≡ 1 ∷ 0 ∷ 1 ∷ 0 ∷ 0 ∷ 0 ∷ []
+unfolding block bytesOfHead bytesOfPieces bytes2
+k4-block = refl
+
+pub k1-block : block 3 3 (K1 .pieces) ≡ 3 ∷ 0 ∷ 3 ∷ 0 ∷ 2 ∷ 0 ∷ 1 ∷ 0 ∷ 2 ∷ 0 ∷ 2 ∷ 0 ∷ 2 ∷ 0 ∷ 3 ∷ 0 ∷ 6 ∷ 0 ∷ []
+unfolding block bytesOfHead bytesOfPieces bytesOfPiece bytes2
+k1-block = refl

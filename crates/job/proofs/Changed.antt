@@ -1,23 +1,25 @@
 -- The laws of the changed job: what stands at each number after an addition, a correction, a removal, and the job that has it.
 use Prim.Native.Nat.{ℕ, _+_, _-_, _≤_, _<_}
 use mathlib.Core.Bool.{Bool, cond}
-use mathlib.Core.Path.{_≡_, refl, sym, ap, _∙_}
-use mathlib.Core.Logic.{⊎-elim}
+use mathlib.Core.Path.{_≡_, refl, sym, ap, _∙_, subst}
+use mathlib.Core.Logic.{_⊎_, inl, inr, ⊎-elim}
 use mathlib.Core.List.{List, [], _∷_, _++_}
 use native.Mathlib.Omega.{arith}
 use lib.ListN.{length, getD, set, take, drop, length-append, length-drop, length-set, List·getD-append}
 use lib.Seq.{getD-append-seam, getD-append-add, getD-take, getD-drop, getD-set-same, getD-set-other, length-take-le}
 use borrow.Author.Tests.{lt-ltb, le-ltb}
 use Rattle.laws.specs.Filled.{filled}
-use Rattle.laws.proofs.Order.{le-or-lt}
+use Rattle.laws.proofs.Order.{le-or-lt, last-or-below, eq-or-not}
 use Rattle.laws.proofs.Filled.{filled-more, filled-same, filled-set, filled-end}
 use Rattle.cutting.specs.Piece.{Piece, noPiece}
 use Rattle.cutting.specs.Limits.{piecesMax}
 use Rattle.cutting.specs.Change.{added, corrected, removed}
 use Rattle.job.specs.declared.Piece.{Piece as Record}
 use Rattle.job.specs.declared.Job.{Job}
-use Rattle.job.specs.Job.{pieceOf, recordOf, noRecord, piecesOf}
+use Rattle.job.specs.Job.{pieceOf, recordOf, noRecord, piecesOf, jobOf}
 use Rattle.job.specs.Change.{withAdded, withCorrected, withRemoved, movedFrom}
+use Rattle.job.specs.Range.{JobInRange}
+use Rattle.job.proofs.Range.{PieceIn, RecordIn, in-range-each, each-in-range, jobOf-in-range}
 use Rattle.job.proofs.Pieces.{pieces-length, record-at, pieces-jobOf, is-jobOf}
 
 pub moved-low : (gap k : ℕ) → k < gap → movedFrom gap k ≡ k
@@ -159,3 +161,55 @@ pieces-removed job number h first last =
     let long : length (piecesOf job) ≡ job .count = pieces-length job in
     let below : number ≤ length (piecesOf job) = omega arith in
     pieces-jobOf (job .width) (job .height) (removed (piecesOf job) number) (omega (arith, removed-length (piecesOf job) number first below))
+
+-- The changed job is in range where the job and the new piece are.
+module _ (job : Job) (range : JobInRange job) where
+  sides : (pieces : List Piece) → length pieces ≤ piecesMax → ((k : ℕ) → k < length pieces → PieceIn (getD pieces k noPiece)) → JobInRange (jobOf (job .width) (job .height) pieces)
+  sides pieces most each =
+      jobOf-in-range (job .width) (job .height) pieces
+      (record { least = range .widthLeast; most = range .widthMost })
+      (record { least = range .heightLeast; most = range .heightMost })
+      most
+      (each-in-range pieces each)
+
+  old : (k : ℕ) → k < length (piecesOf job) → PieceIn (getD (piecesOf job) k noPiece)
+  old = in-range-each (piecesOf job) (range .pieces)
+
+  pub added-in-range : (new : Record) → job .count < piecesMax → RecordIn new → JobInRange (withAdded job new)
+  unfolding withAdded
+  added-in-range new room good =
+      sides (added pieces (pieceOf new)) (omega (arith, long, pieces-length job)) (λ k l. either k (last-or-below (omega (arith, long))))
+    where
+      pieces : List Piece
+      pieces = piecesOf job
+
+      long : length (added (piecesOf job) (pieceOf new)) ≡ length (piecesOf job) + 1
+      long = added-length (piecesOf job) (pieceOf new)
+
+      either : (k : ℕ) → (k ≡ length (piecesOf job)) ⊎ (k < length (piecesOf job)) → PieceIn (getD (added (piecesOf job) (pieceOf new)) k noPiece)
+      either k (inl e) = subst PieceIn (sym (ap (λ (i : ℕ). getD (added (piecesOf job) (pieceOf new)) i noPiece) e ∙ added-last (piecesOf job) (pieceOf new))) good
+      either k (inr l) = subst PieceIn (sym (added-at (piecesOf job) (pieceOf new) k l)) (old k l)
+
+  pub corrected-in-range : (number : ℕ) (new : Record) → RecordIn new → JobInRange (withCorrected job number new)
+  unfolding withCorrected
+  corrected-in-range number new good =
+      sides (corrected (piecesOf job) number (pieceOf new)) (omega (arith, long, pieces-length job, range .countMost))
+      (λ k l. either k (omega (arith, long)) (eq-or-not k (number - 1)))
+    where
+      long : length (corrected (piecesOf job) number (pieceOf new)) ≡ length (piecesOf job)
+      long = corrected-length (piecesOf job) number (pieceOf new)
+
+      either : (k : ℕ) → k < length (piecesOf job) → (k ≡ number - 1) ⊎ (k ≡ number - 1 → ⊥) → PieceIn (getD (corrected (piecesOf job) number (pieceOf new)) k noPiece)
+      either k l (inl e) =
+          subst PieceIn
+          (sym (ap (λ (i : ℕ). getD (corrected (piecesOf job) number (pieceOf new)) i noPiece) e ∙ corrected-same (piecesOf job) number (pieceOf new) (omega arith)))
+          good
+      either k l (inr n) = subst PieceIn (sym (corrected-other (piecesOf job) number (pieceOf new) k n)) (old k l)
+
+  pub removed-in-range : (number : ℕ) → 1 ≤ number → number ≤ job .count → JobInRange (withRemoved job number)
+  unfolding withRemoved
+  removed-in-range number first last =
+      let below : number ≤ length (piecesOf job) = omega (arith, pieces-length job) in
+      let long : length (removed (piecesOf job) number) ≡ length (piecesOf job) - 1 = removed-length (piecesOf job) number first below in
+      sides (removed (piecesOf job) number) (omega (arith, pieces-length job, range .countMost))
+      (λ k l. subst PieceIn (sym (removed-at (piecesOf job) number first below k)) (old (movedFrom (number - 1) k) (omega (arith, moved-below (number - 1) k))))

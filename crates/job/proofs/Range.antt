@@ -1,27 +1,33 @@
 -- The tests of range say what they stand for.
-use Prim.Native.Nat.{ℕ, _+_, _-_, _≤_, _<_}
-use mathlib.Core.Path.{_≡_, sym, ap, _∙_}
+use Prim.Native.Nat.{ℕ, _≤_, _<_}
+use mathlib.Core.Path.{_≡_, refl, sym, subst}
+use mathlib.Core.List.{List, []}
 use native.Mathlib.Omega.{arith}
-use lib.ListN.{getD}
+use mathlib.Core.Bool.{false}
+use lib.ListN.{getD, length}
 use Rattle.laws.specs.Says.{Says}
-use Rattle.laws.proofs.Says.{says-le, says-and, says-iff}
+use Rattle.laws.proofs.Says.{says-le, says-and, says-iff, says-no}
 use Rattle.laws.proofs.Below.{allBelow-says}
 use Rattle.cutting.specs.Limits.{sideMax, piecesMax, sizeMax, valueMax}
-use Rattle.cutting.specs.Piece.{Piece, noPiece, pieceAt, Lays, PieceInRange, InRange}
+use Rattle.cutting.proofs.Listed.{lays-listed, listed-lays}
+use Rattle.cutting.specs.Piece.{Piece, noPiece, Lays, PieceInRange, InRange}
 use Rattle.job.specs.declared.Piece.{Piece as Record}
 use Rattle.job.specs.declared.Job.{Job}
-use Rattle.job.specs.Job.{pieceOf, noRecord, piecesOf}
+use Rattle.job.specs.Job.{pieceOf, noRecord, piecesOf, jobOf, zeroJob}
 use Rattle.job.specs.Range.{JobInRange, within, pieceInRange, piecesInRange, jobInRange}
-use Rattle.job.proofs.Pieces.{pieces-length, pieces-at}
+use Rattle.job.proofs.Pieces.{pieces-length, pieces-at, pieces-jobOf}
 
 pub within-says : (n most : ℕ) → Says (within n most) ((1 ≤ n) × (n ≤ most))
 within-says n most = says-and (says-le 1 n) (says-le n most)
 
--- A record in range: its piece is.
-abbrev pub RecordInRange : Record → Type 0
-RecordInRange r = PieceInRange (r .width) (r .height) (r .value)
+-- A piece in range, and a record: its piece is.
+abbrev pub PieceIn : Piece → Type 0
+PieceIn p = PieceInRange (p .width) (p .height) (p .value)
 
-pub piece-says : (r : Record) → Says (pieceInRange r) (RecordInRange r)
+abbrev pub RecordIn : Record → Type 0
+RecordIn r = PieceIn (pieceOf r)
+
+pub piece-says : (r : Record) → Says (pieceInRange r) (RecordIn r)
 unfolding pieceInRange
 piece-says r =
     says-iff (
@@ -30,34 +36,28 @@ piece-says r =
     )
     (says-and (within-says (r .width) sizeMax) (says-and (within-says (r .height) sizeMax) (within-says (r .value) valueMax)))
 
--- The pieces of a job are in range where its first n records are.
+-- Pieces are in range where each of the list is.
+module _ (pieces : List Piece) where
+  pub in-range-each : InRange (Lays pieces) → (k : ℕ) → k < length pieces → PieceIn (getD pieces k noPiece)
+  in-range-each h k l = h _ _ _ (listed-lays (record { within = l; is = refl }))
+
+  pub each-in-range : ((k : ℕ) → k < length pieces → PieceIn (getD pieces k noPiece)) → InRange (Lays pieces)
+  each-in-range h p q v l =
+      let t = lays-listed l in
+      subst PieceIn (t .1 .is) (h (t .0) (t .1 .within))
+
 module _ (job : Job) where
   abbrev recordAt : ℕ → Record
   recordAt k = getD (job .pieces) k noRecord
 
-  pub records-in-range : InRange (Lays (piecesOf job)) → (k : ℕ) → k < job .count → RecordInRange (recordAt k)
-  unfolding pieceAt
-  records-in-range h k l =
-      let e : pieceAt (piecesOf job) (k + 1) ≡ pieceOf (recordAt k) = ap (λ (i : ℕ). getD (piecesOf job) i noPiece) (omega arith) ∙ pieces-at job k l in
-      h _ _ _ (record { number = k + 1; numbered = record { first = omega arith; last = omega (arith, pieces-length job); width = ap (λ (p : Piece). p .width) e; height = ap (λ (p : Piece). p .height) e; value = ap (λ (p : Piece). p .value) e } })
-
-  pub pieces-in-range : ((k : ℕ) → k < job .count → RecordInRange (recordAt k)) → InRange (Lays (piecesOf job))
-  unfolding pieceAt
-  pieces-in-range h p q v l =
-      let n = l .number in
-      let below : n - 1 < job .count = omega (arith, pieces-length job, l .numbered .first, l .numbered .last) in
-      let e : pieceAt (piecesOf job) n ≡ pieceOf (recordAt (n - 1)) = pieces-at job (n - 1) below in
-      let i = h (n - 1) below in
-      let w : recordAt (n - 1) .width ≡ p = sym (ap (λ (r : Piece). r .width) e) ∙ l .numbered .width in
-      let x : recordAt (n - 1) .height ≡ q = sym (ap (λ (r : Piece). r .height) e) ∙ l .numbered .height in
-      let y : recordAt (n - 1) .value ≡ v = sym (ap (λ (r : Piece). r .value) e) ∙ l .numbered .value in
-      record { widthLeast = omega arith; widthMost = omega arith; heightLeast = omega arith; heightMost = omega arith; valueLeast = omega arith; valueMost = omega arith }
-
   pub pieces-say : Says (piecesInRange job) (InRange (Lays (piecesOf job)))
   unfolding piecesInRange
   pieces-say =
-      says-iff
-      (λ h. pieces-in-range (λ k l. piece-says (recordAt k) .means (h k l)), λ i k l. piece-says (recordAt k) .found (records-in-range i k l))
+      says-iff (
+        λ h. each-in-range (piecesOf job) (λ k l. let b : k < job .count = omega (arith, pieces-length job) in
+            subst PieceIn (sym (pieces-at job k b)) (piece-says (recordAt k) .means (h k b))),
+        λ i k l. piece-says (recordAt k) .found (subst PieceIn (pieces-at job k l) (in-range-each (piecesOf job) i k (omega (arith, pieces-length job)))),
+      )
       (allBelow-says (λ k. pieceInRange (recordAt k)) (job .count))
 
   pub job-says : Says (jobInRange job) (JobInRange job)
@@ -68,3 +68,30 @@ module _ (job : Job) where
         λ i. ((i .widthLeast, i .widthMost), ((i .heightLeast, i .heightMost), (i .countMost, i .pieces))),
       )
       (says-and (within-says (job .width) sideMax) (says-and (within-says (job .height) sideMax) (says-and (says-le (job .count) piecesMax) pieces-say)))
+
+-- The job of zeros is out of range: "every later call refuses" it "with 1".
+pub zeros-refused : jobInRange zeroJob ≡ false
+unfolding zeroJob jobOf
+zeros-refused = says-no (job-says zeroJob) (λ i. omega (arith, i .widthLeast))
+
+-- A side, in range.
+pub record Side (n : ℕ) : Type 0 where
+  pub least : 1 ≤ n
+  pub most : n ≤ sideMax
+
+-- The job that has these sides and pieces is in range where they are.
+pub jobOf-in-range : (a b : ℕ) (pieces : List Piece) → Side a → Side b → length pieces ≤ piecesMax → InRange (Lays pieces) → JobInRange (jobOf a b pieces)
+unfolding jobOf
+jobOf-in-range a b pieces wide high most range =
+    record {
+      widthLeast = wide .least;
+      widthMost = wide .most;
+      heightLeast = high .least;
+      heightMost = high .most;
+      countMost = most;
+      pieces = subst (λ (l : List Piece). InRange (Lays l)) (sym (pieces-jobOf a b pieces most)) range;
+    }
+
+-- A fresh job is in range where its sides are.
+pub new-in-range : (a b : ℕ) → Side a → Side b → JobInRange (jobOf a b [])
+new-in-range a b wide high = jobOf-in-range a b [] wide high (omega arith) (each-in-range [] (λ k l. absurd (omega arith)))

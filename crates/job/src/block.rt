@@ -7,7 +7,7 @@ ghost use Rattle.laws.specs.Put.{put};
 ghost use Rattle.laws.specs.Filled.{filled};
 ghost use Rattle.cutting.specs.Limits.{piecesMax};
 ghost use Rattle.job.specs.Job.{pieceOf, recordOf, noRecord, piecesOf};
-ghost use Rattle.job.specs.Block.{BlockShape, blockLength, pieceFrom, pieceIn, bytesOfPiece, bytesOfHead, bytesOfPieces, block, blockShape, jobIn, fromBlock};
+ghost use Rattle.job.specs.Block.{headBytes, pieceBytes, BlockShape, blockLength, countIn, pieceFrom, pieceIn, bytesOfPiece, bytesOfHead, bytesOfPieces, block, blockShape, jobIn, fromBlock};
 use crate::Blocked;
 use crate::Job;
 use crate::Piece;
@@ -32,6 +32,14 @@ pub fn block_length(count: usize) -> usize
     HEAD_BYTES + count * PIECE_BYTES
 }
 
+// The n of a block.
+fn count_in(s: &[u8]) -> u16
+    requires { ⌜ headBytes ≤ length (now s) ⌝ }
+    ensures { λ r. ⌜ r ≡ countIn (now (s .entry)) ⌝ }
+{
+    number2(s, 4)
+}
+
 // Is it 6 bytes long at least, with n at most 64 and the length 6 + 6n?
 fn block_shaped(s: &[u8]) -> bool
     ensures { λ r. ⌜ r ≡ blockShape (now (s .entry)) ⌝ }
@@ -39,7 +47,7 @@ fn block_shaped(s: &[u8]) -> bool
     if s.len() < HEAD_BYTES {
         return false;
     }
-    let count = number2(s, 4);
+    let count = count_in(s);
     if Job::PIECES_MAX < count {
         return false;
     }
@@ -47,7 +55,7 @@ fn block_shaped(s: &[u8]) -> bool
 }
 
 fn piece_from(s: &[u8], at: usize) -> Piece
-    requires { ⌜ at + 6 ≤ length (now s) ⌝ }
+    requires { ⌜ at + pieceBytes ≤ length (now s) ⌝ }
     ensures { λ r. ⌜ r ≡ recordOf (pieceFrom (now (s .entry)) at) ⌝ }
 {
     Piece {
@@ -74,7 +82,7 @@ fn job_in(s: &[u8]) -> Job
     requires { ⌜ BlockShape (now s) ⌝ }
     ensures { λ r. ⌜ r ≡ jobIn (now (s .entry)) ⌝ }
 {
-    let count = number2(s, 4);
+    let count = count_in(s);
     let pieces = records_in(s, wide(count));
     Job {
         width: number2(s, 0),
@@ -100,7 +108,7 @@ pub fn from_block(s: &[u8]) -> Blocked
 }
 
 fn put_head(o: &mut [u8], width: u16, height: u16, count: u16)
-    requires { ⌜ 6 ≤ length (now o) ⌝ }
+    requires { ⌜ headBytes ≤ length (now o) ⌝ }
     ensures { λ _. ⌜ now (o .exit) ≡ put (now (o .entry)) 0 (bytesOfHead width height count) ⌝ }
 {
     put2(o, 0, width);
@@ -109,7 +117,7 @@ fn put_head(o: &mut [u8], width: u16, height: u16, count: u16)
 }
 
 fn put_piece(o: &mut [u8], at: usize, piece: Piece)
-    requires { ⌜ at + 6 ≤ length (now o) ⌝ }
+    requires { ⌜ at + pieceBytes ≤ length (now o) ⌝ }
     ensures { λ _. ⌜ now (o .exit) ≡ put (now (o .entry)) at (bytesOfPiece (pieceOf piece)) ⌝ }
 {
     put2(o, at, piece.width);
@@ -121,7 +129,7 @@ fn put_piece(o: &mut [u8], at: usize, piece: Piece)
 fn put_pieces(o: &mut [u8], job: Job)
     requires { ⌜ job .count ≤ piecesMax ⌝ }
     requires { ⌜ blockLength (job .count) ≤ length (now o) ⌝ }
-    ensures { λ _. ⌜ now (o .exit) ≡ put (now (o .entry)) 6 (bytesOfPieces (piecesOf job)) ⌝ }
+    ensures { λ _. ⌜ now (o .exit) ≡ put (now (o .entry)) headBytes (bytesOfPieces (piecesOf job)) ⌝ }
 {
     let pieces = job.pieces;
     let count = wide(job.count);

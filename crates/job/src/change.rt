@@ -76,8 +76,8 @@ impl Job {
     {
         let records = self.pieces;
         let count = self.count as usize - 1;
-        let at = number as usize - 1;
-        let pieces = kept(records, at, count);
+        let gap = number as usize - 1;
+        let pieces = kept(records, gap, count);
         Job {
             width: self.width,
             height: self.height,

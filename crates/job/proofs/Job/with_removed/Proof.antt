@@ -13,8 +13,8 @@ cast-count c = search needs
 sub-count : tie.Need-sub-count
 sub-count c = search needs
 
-sub-at : tie.Need-sub-at
-sub-at c = search needs
+sub-gap : tie.Need-sub-gap
+sub-gap c = search needs
 
 kept-requires : tie.Need-kept-requires
 kept-requires c κs = (omega arith, λ k h. omega (arith, moved-below (c .before .before .args .number - 1) k))
@@ -28,4 +28,4 @@ returns c =
     removed-done _ _ (pre .0) (pre .1 .0) (pre .1 .1) refl (c .before .kept .ensures)
 
 pub with-removed-spec : {M : Type 1} → statement M
-with-removed-spec = tie.close (tie.spec cast-count sub-count sub-at kept-requires sub-t8 returns)
+with-removed-spec = tie.close (tie.spec cast-count sub-count sub-gap kept-requires sub-t8 returns)

@@ -18,14 +18,14 @@ returns c =
     let s = c .before .before .args .s .now in
     le-no (leb (countIn s) piecesMax && eqb (length s) (blockLength (countIn s))) (c .if1 .taken)
 
-number2-requires : tie.Need-number2-requires
-number2-requires c κs = search needs
+count-in-requires : tie.Need-count-in-requires
+count-in-requires c κs = search needs
 
 returns-2 : tie.Need-returns-2
 unfolding blockShape
 returns-2 c =
     let s = c .before .before .before .before .args .s .now in
-    let above : piecesMax < countIn s = omega (arith, c .before .number2 .ensures) in
+    let above : piecesMax < countIn s = omega (arith, c .before .count-in .ensures) in
     le-yes (c .before .before .if1 .left) (le-no (eqb (length s) (blockLength (countIn s))) above)
 
 wide-requires : tie.Need-wide-requires
@@ -38,7 +38,7 @@ returns-3 : tie.Need-returns-3
 unfolding blockShape
 returns-3 c =
     let past2 = c .before .before in
-    let count = past2 .before .number2 .ensures in
+    let count = past2 .before .count-in .ensures in
     let most : countIn (past2 .before .before .before .before .args .s .now) ≤ piecesMax = omega (arith, count) in
     le-yes (past2 .before .before .if1 .left)
     (le-yes most (ap (eqb _) (c .block-length .ensures ∙ ap blockLength (c .before .wide .ensures ∙ count))))
@@ -46,4 +46,4 @@ returns-3 c =
 pub block-shaped-spec : {M : Type 1} → statement M
 block-shaped-spec =
     tie.close
-    (tie.spec returns number2-requires returns-2 wide-requires block-length-requires returns-3)
+    (tie.spec returns count-in-requires returns-2 wide-requires block-length-requires returns-3)

@@ -7,8 +7,8 @@ use Rattle.job.proofs.Blocks.{job-in-done}
 use Rattle.job.proofs.block.job_in.Statement.{statement}
 use Rattle.job.proofs.block.job_in.Tie as tie
 
-number2-requires : tie.Need-number2-requires
-number2-requires c κs = search needs
+count-in-requires : tie.Need-count-in-requires
+count-in-requires c κs = search needs
 
 wide-requires : tie.Need-wide-requires
 wide-requires c κs = search needs
@@ -16,25 +16,25 @@ wide-requires c κs = search needs
 records-in-requires : tie.Need-records-in-requires
 records-in-requires c κs = search needs
 
+number2-requires : tie.Need-number2-requires
+number2-requires c κs = search needs
+
 number2-requires-2 : tie.Need-number2-requires-2
 number2-requires-2 c κs = search needs
-
-number2-requires-3 : tie.Need-number2-requires-3
-number2-requires-3 c κs = search needs
 
 returns : tie.Need-returns
 returns c =
     let counted = c .before .before .before in
-    job-in-done _ (c .before .number22 .ensures) (c .number23 .ensures) (counted .before .number2 .ensures)
+    job-in-done _ (c .before .number2 .ensures) (c .number22 .ensures) (counted .before .count-in .ensures)
     (filled-end _ noRecord piecesMax (c .before .before .records-in .ensures) (counted .wide .ensures))
 
 pub job-in-spec : {M : Type 1} → statement M
 job-in-spec =
     tie.close
     (tie.spec
-    number2-requires
+    count-in-requires
     wide-requires
     records-in-requires
+    number2-requires
     number2-requires-2
-    number2-requires-3
     returns)

@@ -1,0 +1,64 @@
+-- `check` meets its contract.
+use mathlib.Core.Path.{sym, _∙_}
+use native.Mathlib.Omega.{arith}
+use Rattle.laws.proofs.Tests.{not-true, not-false}
+use Rattle.checker.proofs.Stages.{framed-says, agreed-tells, refuses-9, refuses-10, refuses-11, judges}
+use borrow.Author.Needs.{needs}
+use Rattle.checker.proofs.check.Statement.{statement}
+use Rattle.checker.proofs.check.Tie as tie
+use Rattle.checker.proofs.check.Reads as reads
+use Rattle.checker.proofs.check.Lts as lts
+use Rattle.checker.proofs.is_framed.Reads as is-framed-reads
+use Rattle.checker.proofs.job_agrees.Reads as job-agrees-reads
+use Rattle.checker.proofs.job_block.Reads as job-block-reads
+use Rattle.checker.proofs.judge.Reads as judge-reads
+use Rattle.checker.proofs.read_nodes.Reads as read-nodes-reads
+use Rattle.checker.proofs.sum_agrees.Reads as sum-agrees-reads
+
+is-framed-requires : tie.Need-is-framed-requires
+is-framed-requires c κs = search needs
+
+returns : tie.Need-returns
+returns c = refuses-9 _ (sym (c .before .is-framed .ensures) ∙ not-true (c .if1 .taken))
+
+sum-agrees-requires : tie.Need-sum-agrees-requires
+sum-agrees-requires c κs = framed-says _ .means (sym (c .before .is-framed .ensures) ∙ not-false (c .if1 .left))
+
+returns-2 : tie.Need-returns-2
+returns-2 c = refuses-10 _ (sym (c .before .before .before .is-framed .ensures) ∙ not-false (c .before .before .if1 .left)) (sym (c .before .sum-agrees .ensures) ∙ not-true (c .if2 .taken))
+
+job-block-requires : tie.Need-job-block-requires
+job-block-requires c κs = framed-says _ .means (sym (c .before .before .before .is-framed .ensures) ∙ not-false (c .before .before .if1 .left))
+
+job-agrees-requires : tie.Need-job-agrees-requires
+job-agrees-requires c κs = search needs
+
+returns-3 : tie.Need-returns-3
+returns-3 c = refuses-11 _ (sym (c .before .before .before .before .before .before .is-framed .ensures) ∙ not-false (c .before .before .before .before .before .if1 .left)) (sym (c .before .before .before .before .sum-agrees .ensures) ∙ not-false (c .before .before .before .if2 .left)) (c .before .before .job-block .ensures) (sym (c .before .job-agrees .ensures) ∙ not-true (c .if3 .taken))
+
+read-nodes-requires : tie.Need-read-nodes-requires
+read-nodes-requires c κs =
+    let framed = framed-says _ .means (sym (c .before .before .before .before .before .before .before .is-framed .ensures) ∙ not-false (c .before .before .before .before .before .before .if1 .left)) in
+    let agreed = agreed-tells _ framed (c .before .before .before .job-block .ensures) (sym (c .before .before .job-agrees .ensures) ∙ not-false (c .before .if3 .left)) in
+    ((omega arith, agreed .behind), agreed .range)
+
+judge-requires : tie.Need-judge-requires
+judge-requires c κs = framed-says _ .means (sym (c .before .before .before .before .before .before .before .before .is-framed .ensures) ∙ not-false (c .before .before .before .before .before .before .before .if1 .left))
+
+returns-4 : tie.Need-returns-4
+returns-4 c = judges _ (sym (c .before .before .before .before .before .before .before .before .before .is-framed .ensures) ∙ not-false (c .before .before .before .before .before .before .before .before .if1 .left)) (sym (c .before .before .before .before .before .before .before .sum-agrees .ensures) ∙ not-false (c .before .before .before .before .before .before .if2 .left)) (c .before .before .before .before .before .job-block .ensures) (sym (c .before .before .before .before .job-agrees .ensures) ∙ not-false (c .before .before .before .if3 .left)) (c .before .read-nodes .ensures) (c .judge .ensures)
+
+pub check-spec : {M : Type 1} → statement M
+check-spec =
+    tie.close
+    (tie.spec
+    is-framed-requires
+    returns
+    sum-agrees-requires
+    returns-2
+    job-block-requires
+    job-agrees-requires
+    returns-3
+    read-nodes-requires
+    judge-requires
+    returns-4)

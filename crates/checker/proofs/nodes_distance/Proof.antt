@@ -1,0 +1,29 @@
+-- `nodes_distance` meets its contract.
+use Rattle.checker.proofs.Stages.{nodes-read}
+use borrow.Author.Needs.{needs}
+use Rattle.checker.proofs.nodes_distance.Statement.{statement}
+use Rattle.checker.proofs.nodes_distance.Tie as tie
+use Rattle.checker.proofs.nodes_distance.Reads as reads
+use Rattle.checker.proofs.nodes_distance.Lts as lts
+use Rattle.checker.proofs.trailer_at.Reads as trailer-at-reads
+use Rattle.checker.proofs.widened.Reads as widened-reads
+use Rattle.fields.proofs.number4.Reads as number4-reads
+
+trailer-at-requires : tie.Need-trailer-at-requires
+trailer-at-requires c κs = search needs
+
+add-number4 : tie.Need-add-number4
+add-number4 c = search needs
+
+number4-requires : tie.Need-number4-requires
+number4-requires c κs = search needs
+
+widened-requires : tie.Need-widened-requires
+widened-requires c κs = search needs
+
+returns : tie.Need-returns
+returns c = nodes-read _ (c .before .before .trailer-at .ensures) (c .before .number4 .ensures) (c .widened .ensures)
+
+pub nodes-distance-spec : {M : Type 1} → statement M
+nodes-distance-spec =
+    tie.close (tie.spec trailer-at-requires add-number4 number4-requires widened-requires returns)

@@ -1,0 +1,52 @@
+-- "Last a trailer of 16 bytes that points back: D1, the distance from the trailer's start to the job block; D2, that to the
+-- first node; the value; the sum (four bytes each)."
+use Prim.Native.Nat.{ℕ, _+_, _-_}
+use mathlib.Core.List.{List}
+use lib.ListN.{length, take, drop}
+use Rattle.fields.specs.Number.{number2Of, number4Of}
+use Rattle.job.specs.declared.Job.{Job}
+use Rattle.job.specs.Block.{jobIn}
+use Rattle.checker.specs.Refusals.{trailerLength}
+
+abbrev pub trailerAt : List ℕ → ℕ
+trailerAt file = length file - trailerLength
+
+-- D1
+unfoldable pub blockDistance : List ℕ → ℕ
+blockDistance file = number4Of file (trailerAt file)
+
+-- D2
+unfoldable pub nodesDistance : List ℕ → ℕ
+nodesDistance file = number4Of file (trailerAt file + 4)
+
+unfoldable pub statedValue : List ℕ → ℕ
+statedValue file = number4Of file (trailerAt file + 8)
+
+unfoldable pub statedSum : List ℕ → ℕ
+statedSum file = number4Of file (trailerAt file + 12)
+
+-- "A free note of any bytes may come first", as many as there are before the job block.
+abbrev pub noteLength : List ℕ → ℕ
+noteLength file = trailerAt file - blockDistance file
+
+abbrev pub nodesAt : List ℕ → ℕ
+nodesAt file = trailerAt file - nodesDistance file
+
+-- The bytes "from the job block up to the sum field".
+unfoldable pub summedBytes : List ℕ → List ℕ
+summedBytes file = take (blockDistance file + 12) (drop (noteLength file) file)
+
+-- The bytes from the job block up to the first node.
+unfoldable pub blockBytes : List ℕ → List ℕ
+blockBytes file = take (blockDistance file - nodesDistance file) (drop (noteLength file) file)
+
+-- The bytes before the trailer.
+abbrev pub beforeTrailer : List ℕ → List ℕ
+beforeTrailer file = take (trailerAt file) file
+
+-- The job of the block, and the n that its head states.
+unfoldable pub jobAt : List ℕ → Job
+jobAt file = jobIn (blockBytes file)
+
+unfoldable pub countAt : List ℕ → ℕ
+countAt file = number2Of file (noteLength file + 4)

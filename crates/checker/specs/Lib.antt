@@ -1,0 +1,5 @@
+-- What check promises: the plan file's fields, the stages of the check, and what an accepted file is.
+pub mod Refusals
+pub mod Fields
+pub mod Checked
+pub mod PlanFile

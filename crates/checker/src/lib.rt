@@ -1,0 +1,232 @@
+// The check of a plan file: refusals 9 to 13 in the order of their numbers, whoever wrote the file.
+use fields::number4;
+use fields::sum_of;
+use job::Blocked;
+use job::Job;
+use job::Measure;
+use job::block::from_block;
+use nodes::Frame;
+use nodes::Part;
+use nodes::Sides;
+use nodes::read_part;
+ghost use mathlib.Core.Path.{_≡_};
+ghost use Prim.Native.Nat.{_+_, _-_, _≤_};
+ghost use lib.ListN.{length};
+ghost use Rattle.job.specs.Range.{JobInRange};
+ghost use Rattle.job.specs.Block.{fromBlock};
+ghost use Rattle.checker.specs.Refusals.{trailerLength, fileMost};
+ghost use Rattle.checker.specs.Fields.{trailerAt, blockDistance, nodesDistance, statedValue, noteLength, nodesAt, blockBytes};
+ghost use Rattle.checker.specs.Checked.{Framed, framed, sumAgrees, agreed, nodesRead, judged, checked};
+
+// The answer: a file's value, the length of its note, the area of its pieces and that of its scrap; or the number of a refusal.
+pub enum Checked {
+    Accepted {
+        value: u32,
+        note: u32,
+        piece_area: u32,
+        scrap_area: u32,
+    },
+    Refused(u32),
+}
+
+// The numbers that check refuses with, in their order.
+pub const NOT_FRAMED: u32 = 9;
+
+pub const SUM_DIFFERS: u32 = 10;
+
+pub const JOB_OUT_OF_RANGE: u32 = 11;
+
+pub const NODES_BROKEN: u32 = 12;
+
+pub const VALUE_DIFFERS: u32 = 13;
+
+// The lengths that a file may have.
+pub const FILE_LEAST: usize = 25;
+
+pub const FILE_MOST: usize = 1_048_576;
+
+pub const TRAILER_LENGTH: usize = 16;
+
+// A job block of 6 bytes and a node of 3.
+pub const DISTANCE_LEAST: usize = 9;
+
+// Where the trailer starts.
+fn trailer_at(file: &[u8]) -> usize
+    requires { ⌜ trailerLength ≤ length (now file) ⌝ }
+    ensures { λ r. ⌜ r ≡ trailerAt (now (file .entry)) ⌝ }
+{
+    file.len() - TRAILER_LENGTH
+}
+
+fn widened(n: u32) -> usize
+    ensures { λ r. ⌜ r ≡ n ⌝ }
+{
+    n as usize
+}
+
+// D1.
+fn block_distance(file: &[u8]) -> usize
+    requires { ⌜ trailerLength ≤ length (now file) ⌝ }
+    ensures { λ r. ⌜ r ≡ blockDistance (now (file .entry)) ⌝ }
+{
+    let at = trailer_at(file);
+    widened(number4(file, at))
+}
+
+// D2.
+fn nodes_distance(file: &[u8]) -> usize
+    requires { ⌜ trailerLength ≤ length (now file) ⌝ }
+    ensures { λ r. ⌜ r ≡ nodesDistance (now (file .entry)) ⌝ }
+{
+    let at = trailer_at(file);
+    widened(number4(file, at + 4))
+}
+
+fn stated_value(file: &[u8]) -> u32
+    requires { ⌜ trailerLength ≤ length (now file) ⌝ }
+    ensures { λ r. ⌜ r ≡ statedValue (now (file .entry)) ⌝ }
+{
+    let at = trailer_at(file);
+    number4(file, at + 8)
+}
+
+fn is_framed(file: &[u8]) -> bool
+    ensures { λ r. ⌜ r ≡ framed (now (file .entry)) ⌝ }
+{
+    if file.len() < FILE_LEAST {
+        return false;
+    }
+    if FILE_MOST < file.len() {
+        return false;
+    }
+    let distance = block_distance(file);
+    if distance < DISTANCE_LEAST {
+        return false;
+    }
+    distance <= trailer_at(file)
+}
+
+// The length of the note, which is where the job block starts.
+fn note_length(file: &[u8]) -> usize
+    requires { ⌜ Framed (now file) ⌝ }
+    ensures { λ r. ⌜ r ≡ noteLength (now (file .entry)) ⌝ }
+{
+    trailer_at(file) - block_distance(file)
+}
+
+fn sum_agrees(file: &[u8]) -> bool
+    requires { ⌜ Framed (now file) ⌝ }
+    ensures { λ r. ⌜ r ≡ sumAgrees (now (file .entry)) ⌝ }
+{
+    let start = note_length(file);
+    let end = file.len() - 4;
+    sum_of(&file[start..end]) == number4(file, end)
+}
+
+// Where the job block ends: where the trailer puts the first node, if that is behind the block's start.
+fn block_end(file: &[u8]) -> usize
+    requires { ⌜ Framed (now file) ⌝ }
+    ensures { λ r. ⌜ r ≡ noteLength (now (file .entry)) + (blockDistance (now (file .entry)) - nodesDistance (now (file .entry))) ⌝ }
+{
+    let start = note_length(file);
+    let far = block_distance(file);
+    let near = nodes_distance(file);
+    if far < near {
+        return start;
+    }
+    start + (far - near)
+}
+
+// The job of the bytes between the two places that the trailer points back to.
+fn job_block(file: &[u8]) -> Blocked
+    requires { ⌜ Framed (now file) ⌝ }
+    ensures { λ r. ⌜ r ≡ fromBlock (blockBytes (now (file .entry))) ⌝ }
+{
+    let start = note_length(file);
+    let end = block_end(file);
+    from_block(&file[start..end])
+}
+
+fn job_agrees(blocked: Blocked) -> bool
+    ensures { λ r. ⌜ r ≡ agreed blocked ⌝ }
+{
+    if !blocked.ok {
+        return false;
+    }
+    let job = blocked.job;
+    job.in_range()
+}
+
+// The nodes, read as a part that is the whole rectangle.
+fn read_nodes(file: &[u8], job: Job) -> Part
+    requires { ⌜ (trailerLength ≤ length (now file)) × (nodesDistance (now file) ≤ trailerAt (now file)) ⌝ }
+    requires { ⌜ JobInRange job ⌝ }
+    ensures { λ r. ⌜ r ≡ nodesRead (now (file .entry)) job ⌝ }
+{
+    let at = trailer_at(file);
+    let start = at - nodes_distance(file);
+    let widths = job.row(Measure::Width);
+    let heights = job.row(Measure::Height);
+    let values = job.row(Measure::Value);
+    read_part(
+        &widths,
+        &heights,
+        &values,
+        job.count as u32,
+        &file[..at],
+        Frame {
+            at: start,
+            sides: Sides {
+                width: job.width as u32,
+                height: job.height as u32,
+            },
+        },
+    )
+}
+
+fn narrowed(n: usize) -> u32
+    requires { ⌜ n ≤ fileMost ⌝ }
+    ensures { λ r. ⌜ r ≡ n ⌝ }
+{
+    n as u32
+}
+
+// What was read, held to the trailer: the nodes end where it starts, and their leaves have the value that it states.
+fn judge(file: &[u8], read: Part) -> Checked
+    requires { ⌜ Framed (now file) ⌝ }
+    ensures { λ r. ⌜ r ≡ judged (now (file .entry)) read ⌝ }
+{
+    let Part::Read(next, tally) = read else {
+        return Checked::Refused(NODES_BROKEN);
+    };
+    if next != trailer_at(file) {
+        return Checked::Refused(NODES_BROKEN);
+    }
+    if tally.value != stated_value(file) {
+        return Checked::Refused(VALUE_DIFFERS);
+    }
+    Checked::Accepted {
+        value: tally.value,
+        note: narrowed(note_length(file)),
+        piece_area: tally.pieces,
+        scrap_area: tally.scrap,
+    }
+}
+
+// The refusals in their order.
+pub fn check(file: &[u8]) -> Checked
+    ensures { λ r. ⌜ r ≡ checked (now (file .entry)) ⌝ }
+{
+    if !is_framed(file) {
+        return Checked::Refused(NOT_FRAMED);
+    }
+    if !sum_agrees(file) {
+        return Checked::Refused(SUM_DIFFERS);
+    }
+    let blocked = job_block(file);
+    if !job_agrees(blocked) {
+        return Checked::Refused(JOB_OUT_OF_RANGE);
+    }
+    let job = blocked.job;
+    judge(file, read_nodes(file, job))
+}

@@ -33,6 +33,10 @@ moved-high gap k h = ap (λ (b : Bool). cond b k (k + 1)) (le-ltb k gap h)
 pub moved-below : (gap k : ℕ) → movedFrom gap k ≤ k + 1
 moved-below gap k = ⊎-elim (λ h. omega (arith, moved-high gap k h)) (λ h. omega (arith, moved-low gap k h)) (le-or-lt gap k)
 
+-- Whichever record is left out, fewer than 64 come from the 64.
+pub moved-fits : (gap count : ℕ) → count < piecesMax → (k : ℕ) → k < count → movedFrom gap k < piecesMax
+moved-fits gap count h k l = omega (arith, moved-below gap k)
+
 -- The lists of pieces, number by number.
 module _ (pieces : List Piece) where
   pub added-length : (new : Piece) → length (added pieces new) ≡ length pieces + 1

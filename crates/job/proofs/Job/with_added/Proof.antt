@@ -2,7 +2,7 @@
 use mathlib.Core.Path.{refl}
 use native.Mathlib.Omega.{arith}
 use borrow.Author.Needs.{needs}
-use Rattle.job.proofs.Changed.{moved-below, added-done}
+use Rattle.job.proofs.Changed.{moved-fits, added-done}
 use Rattle.job.proofs.Job.with_added.Statement.{statement}
 use Rattle.job.proofs.Job.with_added.Tie as tie
 
@@ -10,7 +10,7 @@ cast-count : tie.Need-cast-count
 cast-count c = search needs
 
 kept-requires : tie.Need-kept-requires
-kept-requires c κs = (omega arith, λ k h. omega (arith, moved-below (c .before .before .args .self .count) k))
+kept-requires c κs = (omega arith, moved-fits _ _ (omega arith))
 
 mul-pieces : tie.Need-mul-pieces
 mul-pieces c = search needs

@@ -1,9 +1,8 @@
 -- `Job::with_removed` meets its contract.
-use Prim.Native.Nat.{_-_}
 use mathlib.Core.Path.{refl}
 use native.Mathlib.Omega.{arith}
 use borrow.Author.Needs.{needs}
-use Rattle.job.proofs.Changed.{moved-below, removed-done}
+use Rattle.job.proofs.Changed.{moved-fits, removed-done}
 use Rattle.job.proofs.Job.with_removed.Statement.{statement}
 use Rattle.job.proofs.Job.with_removed.Tie as tie
 
@@ -17,7 +16,7 @@ sub-gap : tie.Need-sub-gap
 sub-gap c = search needs
 
 kept-requires : tie.Need-kept-requires
-kept-requires c κs = (omega arith, λ k h. omega (arith, moved-below (c .before .before .args .number - 1) k))
+kept-requires c κs = (omega arith, moved-fits _ _ (omega arith))
 
 sub-t8 : tie.Need-sub-t8
 sub-t8 c = search needs

@@ -1,0 +1,4 @@
+pub mod Chain
+pub mod Exactly
+pub mod Answers
+pub mod Granted

@@ -1,0 +1,70 @@
+-- `correct` answers and empties as it promises: the old size, then the new one.
+use native.Mathlib.Omega.{arith}
+use mathlib.Core.Path.{refl, ap, _∙_}
+use Rattle.desk.proofs.Granted.{correct-granted, record-in}
+use Rattle.desk.proofs.Answers.{change-refused, change-given, usable-still, emptied-both}
+use Rattle.desk.specs.Changing.{emptiedSize, correctedJob, correctedCells}
+use borrow.Author.Needs.{needs}
+use Rattle.desk.proofs.change.correct.Statement.{statement}
+use Rattle.desk.proofs.change.correct.Tie as tie
+use Rattle.desk.proofs.change.correct.Reads as reads
+use Rattle.desk.proofs.change.correct.Lts as lts
+use Rattle.desk.proofs.change.empty_size.Reads as empty-size-reads
+use Rattle.desk.proofs.change.piece_of.Reads as piece-of-reads
+use Rattle.desk.proofs.refusal.correct_refused.Reads as correct-refused-reads
+use Rattle.job.proofs.Job.with_corrected.Reads as with-corrected-reads
+
+correct-refused-requires : tie.Need-correct-refused-requires
+correct-refused-requires c κs = search needs
+
+same-length : tie.Need-same-length
+same-length c = search needs
+
+returns : tie.Need-returns
+unfolding correctedJob correctedCells
+returns c = change-refused _ _ (c .before .correct-refused .ensures) (c .if1 .taken) refl
+
+with-corrected-requires : tie.Need-with-corrected-requires
+with-corrected-requires c κs =
+    let g = correct-granted _ _ _ _ (c .before .correct-refused .ensures) (c .if1 .left) in
+    (g .usable .range .countMost, (g .number .least, g .number .most))
+
+piece-of-requires : tie.Need-piece-of-requires
+piece-of-requires c κs =
+    let g = correct-granted _ _ _ _ (c .before .before .before .correct-refused .ensures) (c .before .before .if1 .left) in
+    (g .usable .range .countMost, g .number)
+
+empty-size-requires : tie.Need-empty-size-requires
+empty-size-requires c κs =
+    let g = correct-granted _ _ _ _ (c .before .before .before .before .correct-refused .ensures) (c .before .before .before .if1 .left) in
+    let old = record-in _ _ _ (g .usable) (g .number) (c .piece-of .ensures) in
+    (g .usable, (old .widthLeast, old .heightLeast))
+
+empty-size-requires-2 : tie.Need-empty-size-requires-2
+empty-size-requires-2 c κs =
+    let g = correct-granted _ _ _ _ (c .before .before .before .before .before .before .before .before .correct-refused .ensures) (c .before .before .before .before .before .before .before .if1 .left) in
+    (usable-still _ _ _ (c .before .before .before .empty-size .ensures) (g .usable), (g .range .widthLeast, g .range .heightLeast))
+
+same-length-2 : tie.Need-same-length-2
+same-length-2 c = search needs
+
+returns-2 : tie.Need-returns-2
+unfolding correctedJob correctedCells
+returns-2 c =
+    let g = correct-granted _ _ _ _ (c .before .before .before .before .before .before .before .before .before .before .before .correct-refused .ensures) (c .before .before .before .before .before .before .before .before .before .before .if1 .left) in
+    change-given _ _ (c .before .before .before .before .before .before .before .before .before .before .before .correct-refused .ensures) (c .before .before .before .before .before .before .before .before .before .before .if1 .left) (c .before .before .before .before .before .before .before .before .before .with-corrected .ensures)
+    (emptied-both _ _ _ _ (g .usable) (c .before .before .before .before .before .before .empty-size .ensures ∙ ap (λ r. emptiedSize (c .before .before .before .before .before .before .before .before .before .before .before .before .before .before .args .job) r (c .before .before .before .before .before .before .before .before .before .before .before .before .before .before .args .t .now)) (c .before .before .before .before .before .before .before .piece-of .ensures)) (c .before .before .empty-size2 .ensures))
+
+pub correct-spec : {M : Type 1} → statement M
+correct-spec =
+    tie.close
+    (tie.spec
+    correct-refused-requires
+    same-length
+    returns
+    with-corrected-requires
+    piece-of-requires
+    empty-size-requires
+    empty-size-requires-2
+    same-length-2
+    returns-2)

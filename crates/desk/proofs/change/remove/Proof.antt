@@ -1,0 +1,61 @@
+-- `remove` answers and empties as it promises.
+use native.Mathlib.Omega.{arith}
+use mathlib.Core.Path.{refl, ap, _∙_}
+use Rattle.desk.proofs.Granted.{remove-granted, record-in}
+use Rattle.desk.proofs.Answers.{change-refused, change-given}
+use Rattle.desk.specs.Changing.{emptiedSize, removedJob, removedCells}
+use borrow.Author.Needs.{needs}
+use Rattle.desk.proofs.change.remove.Statement.{statement}
+use Rattle.desk.proofs.change.remove.Tie as tie
+use Rattle.desk.proofs.change.remove.Reads as reads
+use Rattle.desk.proofs.change.remove.Lts as lts
+use Rattle.desk.proofs.change.empty_size.Reads as empty-size-reads
+use Rattle.desk.proofs.change.piece_of.Reads as piece-of-reads
+use Rattle.desk.proofs.refusal.remove_refused.Reads as remove-refused-reads
+use Rattle.job.proofs.Job.with_removed.Reads as with-removed-reads
+
+remove-refused-requires : tie.Need-remove-refused-requires
+remove-refused-requires c κs = search needs
+
+same-length : tie.Need-same-length
+same-length c = search needs
+
+returns : tie.Need-returns
+unfolding removedJob removedCells
+returns c = change-refused _ _ (c .before .remove-refused .ensures) (c .if1 .taken) refl
+
+with-removed-requires : tie.Need-with-removed-requires
+with-removed-requires c κs =
+    let g = remove-granted _ _ _ (c .before .remove-refused .ensures) (c .if1 .left) in
+    (g .usable .range .countMost, (g .number .least, g .number .most))
+
+piece-of-requires : tie.Need-piece-of-requires
+piece-of-requires c κs =
+    let g = remove-granted _ _ _ (c .before .before .before .remove-refused .ensures) (c .before .before .if1 .left) in
+    (g .usable .range .countMost, g .number)
+
+empty-size-requires : tie.Need-empty-size-requires
+empty-size-requires c κs =
+    let g = remove-granted _ _ _ (c .before .before .before .before .remove-refused .ensures) (c .before .before .before .if1 .left) in
+    let old = record-in _ _ _ (g .usable) (g .number) (c .piece-of .ensures) in
+    (g .usable, (old .widthLeast, old .heightLeast))
+
+same-length-2 : tie.Need-same-length-2
+same-length-2 c = search needs
+
+returns-2 : tie.Need-returns-2
+unfolding removedJob removedCells
+returns-2 c = change-given _ _ (c .before .before .before .before .before .before .before .remove-refused .ensures) (c .before .before .before .before .before .before .if1 .left) (c .before .before .before .before .before .with-removed .ensures) (c .before .before .empty-size .ensures ∙ ap (λ r. emptiedSize (c .before .before .before .before .before .before .before .before .before .before .args .job) r (c .before .before .before .before .before .before .before .before .before .before .args .t .now)) (c .before .before .before .piece-of .ensures))
+
+pub remove-spec : {M : Type 1} → statement M
+remove-spec =
+    tie.close
+    (tie.spec
+    remove-refused-requires
+    same-length
+    returns
+    with-removed-requires
+    piece-of-requires
+    empty-size-requires
+    same-length-2
+    returns-2)

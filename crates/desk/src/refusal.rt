@@ -1,0 +1,139 @@
+// The numbers that the calls on a table refuse with, and the chain of refusals of each call.
+ghost use mathlib.Core.Path.{_≡_};
+ghost use mathlib.Core.Bool.{_&&_};
+ghost use Rattle.job.specs.Range.{within};
+ghost use Rattle.desk.specs.Refusals.{jobRefused, openRefused, addRefused, correctRefused, removeRefused, askRefused};
+use job::Job;
+use job::Piece;
+
+// A side, n or a piece of the job is outside its range.
+pub const JOB: u32 = 1;
+
+// The table has fewer cells than the sheet.
+pub const TABLE: u32 = 2;
+
+// The piece number isn't 1 to n, or the rectangle doesn't lie inside the sheet.
+pub const PLACE: u32 = 3;
+
+// The new piece is outside its range.
+pub const PIECE: u32 = 4;
+
+// The job has as many pieces as it can hold.
+pub const FULL: u32 = 5;
+
+// A filled cell of the box exceeds what its area may earn.
+pub const EXCESS: u32 = 7;
+
+fn wide(n: u16) -> usize
+    ensures { λ r. ⌜ r ≡ n ⌝ }
+{
+    n as usize
+}
+
+fn cast(n: u16) -> u32
+    ensures { λ r. ⌜ r ≡ n ⌝ }
+{
+    n as u32
+}
+
+// Is n in the range 1 to most?
+fn one_to(n: u32, most: u32) -> bool
+    ensures { λ r. ⌜ r ≡ within n most ⌝ }
+{
+    if n < 1 {
+        return false;
+    }
+    n <= most
+}
+
+// Does x by y lie inside a by b?
+fn inside(x: u32, y: u32, a: u16, b: u16) -> bool
+    ensures { λ r. ⌜ r ≡ (within x a && within y b) ⌝ }
+{
+    if !one_to(x, cast(a)) {
+        return false;
+    }
+    one_to(y, cast(b))
+}
+
+pub fn job_refused(job: Job, t: &[u32]) -> u32
+    ensures { λ r. ⌜ r ≡ jobRefused job (now (t .entry)) ⌝ }
+{
+    if !job.in_range() {
+        return JOB;
+    }
+    if t.len() < wide(job.width) * wide(job.height) {
+        return TABLE;
+    }
+    0
+}
+
+pub fn open_refused(a: u32, b: u32, t: &[u32]) -> u32
+    ensures { λ r. ⌜ r ≡ openRefused a b (now (t .entry)) ⌝ }
+{
+    if !inside(a, b, Job::SIDE_MAX, Job::SIDE_MAX) {
+        return JOB;
+    }
+    if t.len() < a as usize * b as usize {
+        return TABLE;
+    }
+    0
+}
+
+pub fn add_refused(job: Job, t: &[u32], piece: Piece) -> u32
+    ensures { λ r. ⌜ r ≡ addRefused job (now (t .entry)) piece ⌝ }
+{
+    let first = job_refused(job, t);
+    if first != 0 {
+        return first;
+    }
+    if !piece.in_range() {
+        return PIECE;
+    }
+    if job.count == Job::PIECES_MAX {
+        return FULL;
+    }
+    0
+}
+
+pub fn remove_refused(job: Job, t: &[u32], number: u32) -> u32
+    ensures { λ r. ⌜ r ≡ removeRefused job (now (t .entry)) number ⌝ }
+{
+    let first = job_refused(job, t);
+    if first != 0 {
+        return first;
+    }
+    if !one_to(number, cast(job.count)) {
+        return PLACE;
+    }
+    0
+}
+
+pub fn correct_refused(job: Job, t: &[u32], number: u32, piece: Piece) -> u32
+    ensures { λ r. ⌜ r ≡ correctRefused job (now (t .entry)) number piece ⌝ }
+{
+    let first = remove_refused(job, t, number);
+    if first != 0 {
+        return first;
+    }
+    if !piece.in_range() {
+        return PIECE;
+    }
+    0
+}
+
+pub fn ask_refused(job: Job, t: &[u32], x: u32, y: u32) -> u32
+    ensures { λ r. ⌜ r ≡ askRefused job (now (t .entry)) x y ⌝ }
+{
+    let first = job_refused(job, t);
+    if first != 0 {
+        return first;
+    }
+    if !inside(x, y, job.width, job.height) {
+        return PLACE;
+    }
+    if cells::has_exceeding(t, wide(job.width), x as usize, y as usize) {
+        return EXCESS;
+    }
+    0
+}

@@ -1,0 +1,105 @@
+-- `tracer::measure` meets its contract. The measure is width plus height, which falls at each line.
+use mathlib.Core.Path.{sym, _∙_}
+use native.Mathlib.Omega.{arith}
+use borrow.Author.Needs.{needs}
+use Rattle.points.specs.Rows.{rowsOf}
+use Rattle.tracer.proofs.Traced.{measured-scrap, measured-piece, measured-line, measured-trim, measured-nothing}
+use Rattle.tracer.proofs.Steps.{real-of, line-within, trim-among, within-side, near-ready, far-ready, near-less, far-less, short-of}
+use Prim.Native.Nat.{ℕ, _+_, _<_}
+use borrow.Fn.Kinds.{In}
+use borrow.Fn.PlainCycle.{Measures, is, falls, and}
+use Rattle.tracer.proofs.measure.Reads as measure
+use Rattle.tracer.proofs.measure.Kinds as measure-kinds
+use Rattle.tracer.proofs.+measure.Lts-measure as measure-lts
+use Rattle.tracer.proofs.choose.Reads as choose-reads
+use Rattle.tracer.proofs.far.Reads as far-reads
+use Rattle.tracer.proofs.near.Reads as near-reads
+use Rattle.tracer.proofs.together.Reads as together-reads
+use Rattle.tracer.proofs.trimmed_length.Reads as trimmed-length-reads
+use Rattle.tracer.proofs.+measure.{statement}
+use Rattle.tracer.proofs.+measure.Tie.{close}
+
+abbrev μ-measure : Measures 6 measure-kinds.ps ℕ
+μ-measure κs a = a .1 .1 .1 .1 .1 .1 .1 .1 .0 .width + a .1 .1 .1 .1 .1 .1 .1 .1 .0 .height
+
+abbrev measure-at : ℕ → In 6 measure-kinds.ps
+measure-at t = and 6 measure-kinds.ps (is 6 measure-kinds.ps μ-measure t) measure.Pre
+
+abbrev measure-below : ℕ → In 6 measure-kinds.ps
+measure-below t = and 6 measure-kinds.ps (falls 6 measure-kinds.ps _<_ μ-measure t) measure.Pre
+
+abbrev measure-calls : ℕ → measure-lts.Claims
+measure-calls t = (choose-reads.Asked, choose-reads.Learnt, near-reads.Asked, near-reads.Learnt, measure-below t, measure.Post, far-reads.Asked, far-reads.Learnt, together-reads.Asked, together-reads.Learnt, trimmed-length-reads.Asked, trimmed-length-reads.Learnt)
+
+measure-choose-requires : (t : ℕ) → measure-lts.Need-choose-requires (measure-calls t) (measure-at t) measure.Post
+measure-choose-requires t c κs = c .before .pre .1
+
+measure-enum-told : (t : ℕ) → measure-lts.Need-enum-told (measure-calls t) (measure-at t) measure.Post
+measure-enum-told t c = search needs
+
+measure-enum-told-2 : (t : ℕ) → measure-lts.Need-enum-told-2 (measure-calls t) (measure-at t) measure.Post
+measure-enum-told-2 t c = search needs
+
+measure-enum-known-choice : (t : ℕ) → measure-lts.Need-enum-known-choice (measure-calls t) (measure-at t) measure.Post
+measure-enum-known-choice t c = search needs
+
+measure-near-requires : (t : ℕ) → measure-lts.Need-near-requires (measure-calls t) (measure-at t) measure.Post
+measure-near-requires t c κs = search needs
+
+measure-measure-requires : (t : ℕ) → measure-lts.Need-measure-requires (measure-calls t) (measure-at t) measure.Post
+measure-measure-requires t c κs = (near-less (c .before .before .before .before .before .before .pre .1) (c .near .ensures) (line-within _ _ _ (sym (c .before .before .before .before .choose .ensures) ∙ c .before .before .choice .given .1)) (c .before .before .before .before .before .before .pre .0), near-ready (c .before .before .before .before .before .before .pre .1) (c .near .ensures) (line-within _ _ _ (sym (c .before .before .before .before .choose .ensures) ∙ c .before .before .choice .given .1)))
+
+measure-far-requires : (t : ℕ) → measure-lts.Need-far-requires (measure-calls t) (measure-at t) measure.Post
+measure-far-requires t c κs = within-side _ _ (line-within _ _ _ (sym (c .before .before .before .before .before .choose .ensures) ∙ c .before .before .before .choice .given .1))
+
+measure-measure-requires-2 : (t : ℕ) → measure-lts.Need-measure-requires-2 (measure-calls t) (measure-at t) measure.Post
+measure-measure-requires-2 t c κs = (far-less (c .before .before .before .before .before .before .before .before .pre .1) (c .far .ensures) (line-within _ _ _ (sym (c .before .before .before .before .before .before .choose .ensures) ∙ c .before .before .before .before .choice .given .1)) (c .before .before .before .before .before .before .before .before .pre .0), far-ready (c .before .before .before .before .before .before .before .before .pre .1) (c .far .ensures) (line-within _ _ _ (sym (c .before .before .before .before .before .before .choose .ensures) ∙ c .before .before .before .before .choice .given .1)))
+
+measure-together-requires : (t : ℕ) → measure-lts.Need-together-requires (measure-calls t) (measure-at t) measure.Post
+measure-together-requires t c κs = (short-of _ _ (near-ready (c .before .before .before .before .before .before .before .before .before .pre .1) (c .before .before .before .near .ensures) (line-within _ _ _ (sym (c .before .before .before .before .before .before .before .choose .ensures) ∙ c .before .before .before .before .before .choice .given .1))) (c .before .before .measure .ensures), short-of _ _ (far-ready (c .before .before .before .before .before .before .before .before .before .pre .1) (c .before .far .ensures) (line-within _ _ _ (sym (c .before .before .before .before .before .before .before .choose .ensures) ∙ c .before .before .before .before .before .choice .given .1))) (c .measure2 .ensures))
+
+measure-enum-known-choice-2 : (t : ℕ) → measure-lts.Need-enum-known-choice-2 (measure-calls t) (measure-at t) measure.Post
+measure-enum-known-choice-2 t c = search needs
+
+measure-trimmed-length-requires : (t : ℕ) → measure-lts.Need-trimmed-length-requires (measure-calls t) (measure-at t) measure.Post
+unfolding rowsOf
+measure-trimmed-length-requires t c κs = trim-among _ _ _ (c .before .before .before .before .before .pre .1 .few) (sym (c .before .before .before .choose .ensures) ∙ c .before .choice2 .given .1)
+
+measure-enum-told-3 : (t : ℕ) → measure-lts.Need-enum-told-3 (measure-calls t) (measure-at t) measure.Post
+measure-enum-told-3 t c = search needs
+
+measure-returns : (t : ℕ) → measure-lts.Need-returns (measure-calls t) (measure-at t) measure.Post
+measure-returns t c = measured-scrap _ _ _ (real-of (c .before .before .before .before .pre .1)) (sym (c .before .before .choose .ensures) ∙ c .enum-told .given .1)
+
+measure-returns-2 : (t : ℕ) → measure-lts.Need-returns-2 (measure-calls t) (measure-at t) measure.Post
+measure-returns-2 t c = measured-piece _ _ _ (real-of (c .before .before .before .before .pre .1)) (sym (c .before .before .choose .ensures) ∙ c .enum-told2 .given .1)
+
+measure-returns-3 : (t : ℕ) → measure-lts.Need-returns-3 (measure-calls t) (measure-at t) measure.Post
+measure-returns-3 t c = measured-line _ _ _ (real-of (c .before .before .before .before .before .before .before .before .before .before .pre .1)) (sym (c .before .before .before .before .before .before .before .before .choose .ensures) ∙ c .before .before .before .before .before .before .choice .given .1) (c .before .before .before .before .near .ensures) (c .before .before .far .ensures) (c .before .before .before .measure .ensures) (c .before .measure2 .ensures) (c .together .ensures)
+
+measure-returns-4 : (t : ℕ) → measure-lts.Need-returns-4 (measure-calls t) (measure-at t) measure.Post
+unfolding rowsOf
+measure-returns-4 t c = measured-trim _ _ _ (real-of (c .before .before .before .before .before .before .pre .1)) (sym (c .before .before .before .before .choose .ensures) ∙ c .before .before .choice2 .given .1) (c .trimmed-length .ensures)
+
+measure-returns-5 : (t : ℕ) → measure-lts.Need-returns-5 (measure-calls t) (measure-at t) measure.Post
+measure-returns-5 t c = measured-nothing _ _ _ (real-of (c .before .before .before .before .pre .1)) (sym (c .before .before .choose .ensures) ∙ c .enum-told3 .given .1)
+
+pub +measure-spec : {M : Type 1} → statement M
++measure-spec = close μ-measure λ t. measure-lts.spec (measure-calls t) (measure-at t) measure.Post
+    (measure-choose-requires t)
+    (measure-enum-told t)
+    (measure-enum-told-2 t)
+    (measure-enum-known-choice t)
+    (measure-near-requires t)
+    (measure-measure-requires t)
+    (measure-far-requires t)
+    (measure-measure-requires-2 t)
+    (measure-together-requires t)
+    (measure-enum-known-choice-2 t)
+    (measure-trimmed-length-requires t)
+    (measure-enum-told-3 t)
+    (measure-returns t)
+    (measure-returns-2 t)
+    (measure-returns-3 t)
+    (measure-returns-4 t)
+    (measure-returns-5 t)

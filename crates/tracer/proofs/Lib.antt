@@ -1,0 +1,7 @@
+-- The laws of the tree rules and of the tree.
+pub mod Rules
+pub mod Chosen
+pub mod Order
+pub mod Depth
+pub mod Traced
+pub mod Steps

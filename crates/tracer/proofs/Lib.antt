@@ -5,3 +5,5 @@ pub mod Order
 pub mod Depth
 pub mod Traced
 pub mod Steps
+pub mod Wrote
+pub mod Nodes

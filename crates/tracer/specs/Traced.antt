@@ -5,6 +5,7 @@ use mathlib.Core.Path.{_≡_}
 use mathlib.Core.List.{List}
 use lib.Dec.{ltb}
 use lib.ListN.{length}
+use Rattle.laws.specs.Put.{put}
 use Rattle.cutting.specs.Limits.{sideMax, piecesMax}
 use Rattle.cutting.specs.Piece.{Piece, Numbered, Inside}
 use Rattle.cutting.specs.Tree.{Tree}
@@ -108,6 +109,15 @@ pub record OnTable (a : ℕ) (t : List ℕ) (s : Sides) : Type 0 where
 pub record Ready (a count : ℕ) (t : List ℕ) (s : Sides) : Type 0 where
   pub few : count ≤ piecesMax
   pub table : OnTable a t s
+
+-- There is room in o for the bytes e at a place.
+pub record Room (o : List ℕ) (at : ℕ) (e : List ℕ) : Type 0 where
+  pub room : at + length e ≤ length o
+
+-- The bytes e were written into o at a place: o is p then, and the place after them is `next`.
+pub record Wrote (o : List ℕ) (at : ℕ) (e : List ℕ) (next : ℕ) (p : List ℕ) : Type 0 where
+  pub place : next ≡ at + length e
+  pub bytes : p ≡ put o at e
 
 -- The rows hold a list of pieces: index k is piece number k + 1.
 pub record HoldsPieces (rows : Rows) (pieces : List Piece) : Type 0 where

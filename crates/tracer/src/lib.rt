@@ -6,14 +6,13 @@ ghost use mathlib.Core.Bool.{true, false, _&&_};
 ghost use Prim.Native.Nat.{_+_, _*_, _/_, _≤_, _<_};
 ghost use lib.ListN.{length, getD};
 ghost use lib.Dec.{eqb};
-ghost use Rattle.laws.specs.Put.{put};
 ghost use Rattle.cutting.specs.Limits.{piecesMax, sideMax};
 ghost use Rattle.cells.specs.Cells.{empty, cellOf};
 ghost use Rattle.cells.specs.Emptied.{fits};
 ghost use Rattle.points.specs.Rows.{rowsOf};
 ghost use Rattle.nodes.specs.Encoding.{nodeLength, node, encode};
 ghost use Rattle.tracer.specs.Choice.{sideOf, near, far, numberOf, suits, firstPiece, addsTo, leastLine, choose};
-ghost use Rattle.tracer.specs.Traced.{OnTable, Ready, Short, leaf, trimTo, trimmed, trimLength, letterOf, together, nodesOf, measured};
+ghost use Rattle.tracer.specs.Traced.{OnTable, Ready, Short, leaf, trimTo, trimmed, trimLength, letterOf, together, nodesOf, measured, Room, Wrote};
 
 // A rectangle.
 pub struct Sides {
@@ -44,6 +43,7 @@ pub enum Measured {
 
 fn wide(number: u16) -> usize
     ensures { λ r. ⌜ r ≡ number ⌝ }
+    ensures { λ r. ⌜ r < 65_536 ⌝ }
 {
     number as usize
 }
@@ -146,7 +146,14 @@ fn first_piece(
 {
     let mut k: usize = 0;
     while k < count {
-        if suits(exact, wide(widths[k]), wide(heights[k]), wide(values[k]), number, sides) {
+        if suits(
+            exact,
+            wide(widths[k]),
+            wide(heights[k]),
+            wide(values[k]),
+            number,
+            sides,
+        ) {
             return k;
         }
         k += 1;
@@ -304,8 +311,7 @@ pub fn measure(
 // Writes one node at a place, and answers the place after it.
 fn write_node(o: &mut [u8], at: usize, letter: u8, number: usize) -> usize
     requires { ⌜ (at + nodeLength ≤ length (now o)) × (number < 65_536) ⌝ }
-    ensures { λ r. ⌜ r ≡ at + length (node letter number) ⌝ }
-    ensures { λ _. ⌜ now (o .exit) ≡ put (now (o .entry)) at (node letter number) ⌝ }
+    ensures { λ r. ⌜ Wrote (now (o .entry)) at (node letter number) r (now (o .exit)) ⌝ }
 {
     o[at] = letter;
     put2(o, at + 1, number as u16);
@@ -324,9 +330,8 @@ fn letter_of(tall: bool) -> u8
 
 // Writes the piece at index k, with a line at `size` and the scrap that it cuts off where that is less than the side.
 fn write_up(o: &mut [u8], at: usize, size: usize, side: usize, k: usize) -> usize
-    requires { ⌜ (at + length (encode (trimTo true size side (leaf k))) ≤ length (now o)) × (size < 65_536) × (k < piecesMax) ⌝ }
-    ensures { λ r. ⌜ r ≡ at + length (encode (trimTo true size side (leaf k))) ⌝ }
-    ensures { λ _. ⌜ now (o .exit) ≡ put (now (o .entry)) at (encode (trimTo true size side (leaf k))) ⌝ }
+    requires { ⌜ Room (now o) at (encode (trimTo true size side (leaf k))) × (size < 65_536) × (k < piecesMax) ⌝ }
+    ensures { λ r. ⌜ Wrote (now (o .entry)) at (encode (trimTo true size side (leaf k))) r (now (o .exit)) ⌝ }
 {
     if size >= side {
         return write_node(o, at, b'P', k + 1);
@@ -338,9 +343,8 @@ fn write_up(o: &mut [u8], at: usize, size: usize, side: usize, k: usize) -> usiz
 
 // Writes the piece p by q at index k, trimmed out of a rectangle.
 fn write_trimmed(o: &mut [u8], at: usize, p: usize, q: usize, k: usize, sides: Sides) -> usize
-    requires { ⌜ (at + length (encode (trimmed p q k sides)) ≤ length (now o)) × (p < 65_536) × (q < 65_536) × (k < piecesMax) ⌝ }
-    ensures { λ r. ⌜ r ≡ at + length (encode (trimmed p q k sides)) ⌝ }
-    ensures { λ _. ⌜ now (o .exit) ≡ put (now (o .entry)) at (encode (trimmed p q k sides)) ⌝ }
+    requires { ⌜ Room (now o) at (encode (trimmed p q k sides)) × (p < 65_536) × (q < 65_536) × (k < piecesMax) ⌝ }
+    ensures { λ r. ⌜ Wrote (now (o .entry)) at (encode (trimmed p q k sides)) r (now (o .exit)) ⌝ }
 {
     if p >= sides.width {
         return write_up(o, at, q, sides.height, k);
@@ -348,6 +352,23 @@ fn write_trimmed(o: &mut [u8], at: usize, p: usize, q: usize, k: usize, sides: S
     let next = write_node(o, at, b'V', p);
     let last = write_up(o, next, q, sides.height, k);
     write_node(o, last, b'S', 0)
+}
+
+// The same with the sizes of the piece at index k.
+fn write_piece_out(
+    widths: &[u16; 64],
+    heights: &[u16; 64],
+    o: &mut [u8],
+    at: usize,
+    k: usize,
+    sides: Sides,
+) -> usize
+    requires { ⌜ Room (now o) at (encode (trimmed (getD (now widths) k 0) (getD (now heights) k 0) k sides)) × (k < piecesMax) ⌝ }
+    ensures { λ r. ⌜ Wrote (now (o .entry)) at (encode (trimmed (getD (now (widths .entry)) k 0) (getD (now (heights .entry)) k 0) k sides)) r (now (o .exit)) ⌝ }
+{
+    let p = wide(widths[k]);
+    let q = wide(heights[k]);
+    write_trimmed(o, at, p, q, k, sides)
 }
 
 // Writes the nodes of a rectangle's tree at a place, and answers the place after them.
@@ -365,9 +386,8 @@ pub fn write(
     at: usize,
 ) -> usize
     requires { ⌜ Ready a count (now cells) sides ⌝ }
-    requires { ⌜ at + length (nodesOf (rowsOf count (now widths) (now heights) (now values) (now across) (now up)) (cellOf a (now cells)) sides) ≤ length (now o) ⌝ }
-    ensures { λ r. ⌜ r ≡ at + length (nodesOf (rowsOf count (now (widths .entry)) (now (heights .entry)) (now (values .entry)) (now (across .entry)) (now (up .entry))) (cellOf a (now (cells .entry))) sides) ⌝ }
-    ensures { λ _. ⌜ now (o .exit) ≡ put (now (o .entry)) at (nodesOf (rowsOf count (now (widths .entry)) (now (heights .entry)) (now (values .entry)) (now (across .entry)) (now (up .entry))) (cellOf a (now (cells .entry))) sides) ⌝ }
+    requires { ⌜ Room (now o) at (nodesOf (rowsOf count (now widths) (now heights) (now values) (now across) (now up)) (cellOf a (now cells)) sides) ⌝ }
+    ensures { λ r. ⌜ Wrote (now (o .entry)) at (nodesOf (rowsOf count (now (widths .entry)) (now (heights .entry)) (now (values .entry)) (now (across .entry)) (now (up .entry))) (cellOf a (now (cells .entry))) sides) r (now (o .exit)) ⌝ }
 {
     let choice = choose(widths, heights, values, across, up, count, cells, a, sides);
     match choice {
@@ -376,11 +396,35 @@ pub fn write(
         Choice::Line(cut) => {
             let next = write_node(o, at, letter_of(cut.tall), cut.at);
             let left = near(cut.tall, cut.at, sides);
-            let middle = write(widths, heights, values, across, up, count, cells, a, left, o, next);
+            let middle = write(
+                widths,
+                heights,
+                values,
+                across,
+                up,
+                count,
+                cells,
+                a,
+                left,
+                o,
+                next,
+            );
             let right = far(cut.tall, cut.at, sides);
-            write(widths, heights, values, across, up, count, cells, a, right, o, middle)
+            write(
+                widths,
+                heights,
+                values,
+                across,
+                up,
+                count,
+                cells,
+                a,
+                right,
+                o,
+                middle,
+            )
         }
-        Choice::Trim(k) => write_trimmed(o, at, wide(widths[k]), wide(heights[k]), k, sides),
+        Choice::Trim(k) => write_piece_out(widths, heights, o, at, k, sides),
         Choice::Nothing => write_node(o, at, b'S', 0),
     }
 }

@@ -1,4 +1,12 @@
-use Prim.Native.Nat.{ℕ, _<_}
+-- `tracer::write` meets its contract. The measure is width plus height, which falls at each line.
+use mathlib.Core.Path.{refl, sym, _∙_}
+use native.Mathlib.Omega.{arith}
+use borrow.Author.Needs.{needs}
+use Rattle.points.specs.Rows.{rowsOf}
+use Rattle.tracer.proofs.Steps.{real-of, line-within, trim-among, piece-among, within-side, near-ready, far-ready, near-less, far-less}
+use Rattle.tracer.proofs.Wrote.{node-space, room-as, wrote-as, line-room, near-room, far-room, wrote-line}
+use Rattle.tracer.proofs.Nodes.{nodes-scrap, nodes-piece, nodes-line, nodes-trim, nodes-nothing, wrote-letter, line-small}
+use Prim.Native.Nat.{ℕ, _+_, _<_}
 use borrow.Fn.Kinds.{In}
 use borrow.Fn.PlainCycle.{Measures, is, falls, and}
 use Rattle.tracer.proofs.write.Reads as write
@@ -8,14 +16,13 @@ use Rattle.tracer.proofs.choose.Reads as choose-reads
 use Rattle.tracer.proofs.far.Reads as far-reads
 use Rattle.tracer.proofs.letter_of.Reads as letter-of-reads
 use Rattle.tracer.proofs.near.Reads as near-reads
-use Rattle.tracer.proofs.wide.Reads as wide-reads
 use Rattle.tracer.proofs.write_node.Reads as write-node-reads
-use Rattle.tracer.proofs.write_trimmed.Reads as write-trimmed-reads
+use Rattle.tracer.proofs.write_piece_out.Reads as write-piece-out-reads
 use Rattle.tracer.proofs.+write.{statement}
 use Rattle.tracer.proofs.+write.Tie.{close}
 
 abbrev μ-write : Measures 7 write-kinds.ps ℕ
-μ-write κs a = ?
+μ-write κs a = a .1 .1 .1 .1 .1 .1 .1 .1 .0 .width + a .1 .1 .1 .1 .1 .1 .1 .1 .0 .height
 
 abbrev write-at : ℕ → In 7 write-kinds.ps
 write-at t = and 7 write-kinds.ps (is 7 write-kinds.ps μ-write t) write.Pre
@@ -23,720 +30,100 @@ write-at t = and 7 write-kinds.ps (is 7 write-kinds.ps μ-write t) write.Pre
 abbrev write-below : ℕ → In 7 write-kinds.ps
 write-below t = and 7 write-kinds.ps (falls 7 write-kinds.ps _<_ μ-write t) write.Pre
 
--- src/lib.rt:372:9
-write-choose-requires : (t : ℕ) → write-lts.Need-choose-requires (
-  choose-reads.Asked,
-  choose-reads.Learnt,
-  write-node-reads.Asked,
-  write-node-reads.Learnt,
-  letter-of-reads.Asked,
-  letter-of-reads.Learnt,
-  near-reads.Asked,
-  near-reads.Learnt,
-  write-below t,
-  write.Post,
-  far-reads.Asked,
-  far-reads.Learnt,
-  wide-reads.Asked,
-  wide-reads.Learnt,
-  write-trimmed-reads.Asked,
-  write-trimmed-reads.Learnt,
-) (write-at t) write.Post
-write-choose-requires t c κs = ?
+abbrev write-calls : ℕ → write-lts.Claims
+write-calls t = (choose-reads.Asked, choose-reads.Learnt, write-node-reads.Asked, write-node-reads.Learnt, letter-of-reads.Asked, letter-of-reads.Learnt, near-reads.Asked, near-reads.Learnt, write-below t, write.Post, far-reads.Asked, far-reads.Learnt, write-piece-out-reads.Asked, write-piece-out-reads.Learnt)
 
--- src/lib.rt:374:37
-write-enum-told : (t : ℕ) → write-lts.Need-enum-told (
-  choose-reads.Asked,
-  choose-reads.Learnt,
-  write-node-reads.Asked,
-  write-node-reads.Learnt,
-  letter-of-reads.Asked,
-  letter-of-reads.Learnt,
-  near-reads.Asked,
-  near-reads.Learnt,
-  write-below t,
-  write.Post,
-  far-reads.Asked,
-  far-reads.Learnt,
-  wide-reads.Asked,
-  wide-reads.Learnt,
-  write-trimmed-reads.Asked,
-  write-trimmed-reads.Learnt,
-) (write-at t) write.Post
-write-enum-told t c = ?
+write-choose-requires : (t : ℕ) → write-lts.Need-choose-requires (write-calls t) (write-at t) write.Post
+write-choose-requires t c κs = c .before .before .pre .1 .0
 
--- src/lib.rt:374:26
-write-write-node-requires : (t : ℕ) → write-lts.Need-write-node-requires (
-  choose-reads.Asked,
-  choose-reads.Learnt,
-  write-node-reads.Asked,
-  write-node-reads.Learnt,
-  letter-of-reads.Asked,
-  letter-of-reads.Learnt,
-  near-reads.Asked,
-  near-reads.Learnt,
-  write-below t,
-  write.Post,
-  far-reads.Asked,
-  far-reads.Learnt,
-  wide-reads.Asked,
-  wide-reads.Learnt,
-  write-trimmed-reads.Asked,
-  write-trimmed-reads.Learnt,
-) (write-at t) write.Post
-write-write-node-requires t c κs = ?
+write-enum-told : (t : ℕ) → write-lts.Need-enum-told (write-calls t) (write-at t) write.Post
+write-enum-told t c = search needs
 
--- src/lib.rt:375:23
-write-enum-known-choice : (t : ℕ) → write-lts.Need-enum-known-choice (
-  choose-reads.Asked,
-  choose-reads.Learnt,
-  write-node-reads.Asked,
-  write-node-reads.Learnt,
-  letter-of-reads.Asked,
-  letter-of-reads.Learnt,
-  near-reads.Asked,
-  near-reads.Learnt,
-  write-below t,
-  write.Post,
-  far-reads.Asked,
-  far-reads.Learnt,
-  wide-reads.Asked,
-  wide-reads.Learnt,
-  write-trimmed-reads.Asked,
-  write-trimmed-reads.Learnt,
-) (write-at t) write.Post
-write-enum-known-choice t c = ?
+write-write-node-requires : (t : ℕ) → write-lts.Need-write-node-requires (write-calls t) (write-at t) write.Post
+write-write-node-requires t c κs = (node-space _ _ (room-as (nodes-scrap _ _ _ (real-of (c .before .before .before .before .before .before .pre .1 .0)) (sym (c .before .before .before .choose .ensures) ∙ c .before .enum-told .given .1)) (c .before .before .before .before .before .before .pre .1 .1)), omega arith)
 
--- src/lib.rt:375:53
-write-add-write-node : (t : ℕ) → write-lts.Need-add-write-node (
-  choose-reads.Asked,
-  choose-reads.Learnt,
-  write-node-reads.Asked,
-  write-node-reads.Learnt,
-  letter-of-reads.Asked,
-  letter-of-reads.Learnt,
-  near-reads.Asked,
-  near-reads.Learnt,
-  write-below t,
-  write.Post,
-  far-reads.Asked,
-  far-reads.Learnt,
-  wide-reads.Asked,
-  wide-reads.Learnt,
-  write-trimmed-reads.Asked,
-  write-trimmed-reads.Learnt,
-) (write-at t) write.Post
-write-add-write-node t c = ?
+write-enum-known-choice : (t : ℕ) → write-lts.Need-enum-known-choice (write-calls t) (write-at t) write.Post
+write-enum-known-choice t c = search needs
 
--- src/lib.rt:375:29
-write-write-node-requires-2 : (t : ℕ) → write-lts.Need-write-node-requires-2 (
-  choose-reads.Asked,
-  choose-reads.Learnt,
-  write-node-reads.Asked,
-  write-node-reads.Learnt,
-  letter-of-reads.Asked,
-  letter-of-reads.Learnt,
-  near-reads.Asked,
-  near-reads.Learnt,
-  write-below t,
-  write.Post,
-  far-reads.Asked,
-  far-reads.Learnt,
-  wide-reads.Asked,
-  wide-reads.Learnt,
-  write-trimmed-reads.Asked,
-  write-trimmed-reads.Learnt,
-) (write-at t) write.Post
-write-write-node-requires-2 t c κs = ?
+write-add-write-node : (t : ℕ) → write-lts.Need-add-write-node (write-calls t) (write-at t) write.Post
+unfolding rowsOf
+write-add-write-node t c =
+    let small : c .before .before .choice .given .0 .0 < 64 = piece-among _ _ _ (c .before .before .before .before .before .before .before .pre .1 .0 .few) (sym (c .before .before .before .before .choose .ensures) ∙ c .before .before .choice .given .1) in
+    omega arith
 
--- src/lib.rt:376:22
-write-enum-known-choice-2 : (t : ℕ) → write-lts.Need-enum-known-choice-2 (
-  choose-reads.Asked,
-  choose-reads.Learnt,
-  write-node-reads.Asked,
-  write-node-reads.Learnt,
-  letter-of-reads.Asked,
-  letter-of-reads.Learnt,
-  near-reads.Asked,
-  near-reads.Learnt,
-  write-below t,
-  write.Post,
-  far-reads.Asked,
-  far-reads.Learnt,
-  wide-reads.Asked,
-  wide-reads.Learnt,
-  write-trimmed-reads.Asked,
-  write-trimmed-reads.Learnt,
-) (write-at t) write.Post
-write-enum-known-choice-2 t c = ?
+write-write-node-requires-2 : (t : ℕ) → write-lts.Need-write-node-requires-2 (write-calls t) (write-at t) write.Post
+unfolding rowsOf
+write-write-node-requires-2 t c κs =
+    let small : c .before .before .choice .given .0 .0 < 64 = piece-among _ _ _ (c .before .before .before .before .before .before .before .pre .1 .0 .few) (sym (c .before .before .before .before .choose .ensures) ∙ c .before .before .choice .given .1) in
+    (node-space _ _ (room-as (nodes-piece _ _ _ (real-of (c .before .before .before .before .before .before .before .pre .1 .0)) (sym (c .before .before .before .before .choose .ensures) ∙ c .before .before .choice .given .1)) (c .before .before .before .before .before .before .before .pre .1 .1)), omega arith)
 
--- src/lib.rt:377:42
-write-letter-of-requires : (t : ℕ) → write-lts.Need-letter-of-requires (
-  choose-reads.Asked,
-  choose-reads.Learnt,
-  write-node-reads.Asked,
-  write-node-reads.Learnt,
-  letter-of-reads.Asked,
-  letter-of-reads.Learnt,
-  near-reads.Asked,
-  near-reads.Learnt,
-  write-below t,
-  write.Post,
-  far-reads.Asked,
-  far-reads.Learnt,
-  wide-reads.Asked,
-  wide-reads.Learnt,
-  write-trimmed-reads.Asked,
-  write-trimmed-reads.Learnt,
-) (write-at t) write.Post
-write-letter-of-requires t c κs = ?
+write-enum-known-choice-2 : (t : ℕ) → write-lts.Need-enum-known-choice-2 (write-calls t) (write-at t) write.Post
+write-enum-known-choice-2 t c = search needs
 
--- src/lib.rt:377:17
-write-write-node-requires-3 : (t : ℕ) → write-lts.Need-write-node-requires-3 (
-  choose-reads.Asked,
-  choose-reads.Learnt,
-  write-node-reads.Asked,
-  write-node-reads.Learnt,
-  letter-of-reads.Asked,
-  letter-of-reads.Learnt,
-  near-reads.Asked,
-  near-reads.Learnt,
-  write-below t,
-  write.Post,
-  far-reads.Asked,
-  far-reads.Learnt,
-  wide-reads.Asked,
-  wide-reads.Learnt,
-  write-trimmed-reads.Asked,
-  write-trimmed-reads.Learnt,
-) (write-at t) write.Post
-write-write-node-requires-3 t c κs = ?
+write-letter-of-requires : (t : ℕ) → write-lts.Need-letter-of-requires (write-calls t) (write-at t) write.Post
+write-letter-of-requires t c κs = search needs
 
--- src/lib.rt:378:17
-write-near-requires : (t : ℕ) → write-lts.Need-near-requires (
-  choose-reads.Asked,
-  choose-reads.Learnt,
-  write-node-reads.Asked,
-  write-node-reads.Learnt,
-  letter-of-reads.Asked,
-  letter-of-reads.Learnt,
-  near-reads.Asked,
-  near-reads.Learnt,
-  write-below t,
-  write.Post,
-  far-reads.Asked,
-  far-reads.Learnt,
-  wide-reads.Asked,
-  wide-reads.Learnt,
-  write-trimmed-reads.Asked,
-  write-trimmed-reads.Learnt,
-) (write-at t) write.Post
-write-near-requires t c κs = ?
+write-write-node-requires-3 : (t : ℕ) → write-lts.Need-write-node-requires-3 (write-calls t) (write-at t) write.Post
+write-write-node-requires-3 t c κs = (node-space _ _ (line-room _ _ _ _ (room-as (nodes-line _ _ _ (real-of (c .before .before .before .before .before .before .before .before .pre .1 .0)) (sym (c .before .before .before .before .before .choose .ensures) ∙ c .before .before .before .choice2 .given .1) refl refl) (c .before .before .before .before .before .before .before .before .pre .1 .1))), line-small (c .before .before .before .before .before .before .before .before .pre .1 .0) (line-within _ _ _ (sym (c .before .before .before .before .before .choose .ensures) ∙ c .before .before .before .choice2 .given .1)))
 
--- src/lib.rt:379:17
-write-write-requires : (t : ℕ) → write-lts.Need-write-requires (
-  choose-reads.Asked,
-  choose-reads.Learnt,
-  write-node-reads.Asked,
-  write-node-reads.Learnt,
-  letter-of-reads.Asked,
-  letter-of-reads.Learnt,
-  near-reads.Asked,
-  near-reads.Learnt,
-  write-below t,
-  write.Post,
-  far-reads.Asked,
-  far-reads.Learnt,
-  wide-reads.Asked,
-  wide-reads.Learnt,
-  write-trimmed-reads.Asked,
-  write-trimmed-reads.Learnt,
-) (write-at t) write.Post
-write-write-requires t c κs = ?
+write-near-requires : (t : ℕ) → write-lts.Need-near-requires (write-calls t) (write-at t) write.Post
+write-near-requires t c κs = search needs
 
--- src/lib.rt:380:17
-write-far-requires : (t : ℕ) → write-lts.Need-far-requires (
-  choose-reads.Asked,
-  choose-reads.Learnt,
-  write-node-reads.Asked,
-  write-node-reads.Learnt,
-  letter-of-reads.Asked,
-  letter-of-reads.Learnt,
-  near-reads.Asked,
-  near-reads.Learnt,
-  write-below t,
-  write.Post,
-  far-reads.Asked,
-  far-reads.Learnt,
-  wide-reads.Asked,
-  wide-reads.Learnt,
-  write-trimmed-reads.Asked,
-  write-trimmed-reads.Learnt,
-) (write-at t) write.Post
-write-far-requires t c κs = ?
+write-write-requires : (t : ℕ) → write-lts.Need-write-requires (write-calls t) (write-at t) write.Post
+write-write-requires t c κs = (near-less (c .before .before .before .before .before .before .before .before .before .before .before .before .before .pre .1 .0) (c .before .near .ensures) (line-within _ _ _ (sym (c .before .before .before .before .before .before .before .before .before .before .choose .ensures) ∙ c .before .before .before .before .before .before .before .before .choice2 .given .1)) (c .before .before .before .before .before .before .before .before .before .before .before .before .before .pre .0), (near-ready (c .before .before .before .before .before .before .before .before .before .before .before .before .before .pre .1 .0) (c .before .near .ensures) (line-within _ _ _ (sym (c .before .before .before .before .before .before .before .before .before .before .choose .ensures) ∙ c .before .before .before .before .before .before .before .before .choice2 .given .1)), near-room _ _ _ _ (room-as (nodes-line _ _ _ (real-of (c .before .before .before .before .before .before .before .before .before .before .before .before .before .pre .1 .0)) (sym (c .before .before .before .before .before .before .before .before .before .before .choose .ensures) ∙ c .before .before .before .before .before .before .before .before .choice2 .given .1) (c .before .near .ensures) refl) (c .before .before .before .before .before .before .before .before .before .before .before .before .before .pre .1 .1)) (wrote-letter _ (c .before .before .before .before .before .letter-of .ensures) (c .before .before .before .before .write-node3 .ensures))))
 
--- src/lib.rt:381:13
-write-write-requires-2 : (t : ℕ) → write-lts.Need-write-requires-2 (
-  choose-reads.Asked,
-  choose-reads.Learnt,
-  write-node-reads.Asked,
-  write-node-reads.Learnt,
-  letter-of-reads.Asked,
-  letter-of-reads.Learnt,
-  near-reads.Asked,
-  near-reads.Learnt,
-  write-below t,
-  write.Post,
-  far-reads.Asked,
-  far-reads.Learnt,
-  wide-reads.Asked,
-  wide-reads.Learnt,
-  write-trimmed-reads.Asked,
-  write-trimmed-reads.Learnt,
-) (write-at t) write.Post
-write-write-requires-2 t c κs = ?
+write-far-requires : (t : ℕ) → write-lts.Need-far-requires (write-calls t) (write-at t) write.Post
+write-far-requires t c κs = within-side _ _ (line-within _ _ _ (sym (c .before .before .before .before .before .before .before .before .before .before .before .before .before .choose .ensures) ∙ c .before .before .before .before .before .before .before .before .before .before .before .choice2 .given .1))
 
--- src/lib.rt:383:22
-write-enum-known-choice-3 : (t : ℕ) → write-lts.Need-enum-known-choice-3 (
-  choose-reads.Asked,
-  choose-reads.Learnt,
-  write-node-reads.Asked,
-  write-node-reads.Learnt,
-  letter-of-reads.Asked,
-  letter-of-reads.Learnt,
-  near-reads.Asked,
-  near-reads.Learnt,
-  write-below t,
-  write.Post,
-  far-reads.Asked,
-  far-reads.Learnt,
-  wide-reads.Asked,
-  wide-reads.Learnt,
-  write-trimmed-reads.Asked,
-  write-trimmed-reads.Learnt,
-) (write-at t) write.Post
-write-enum-known-choice-3 t c = ?
+write-write-requires-2 : (t : ℕ) → write-lts.Need-write-requires-2 (write-calls t) (write-at t) write.Post
+write-write-requires-2 t c κs = (far-less (c .before .before .before .before .before .before .before .before .before .before .before .before .before .before .before .before .before .before .pre .1 .0) (c .before .far .ensures) (line-within _ _ _ (sym (c .before .before .before .before .before .before .before .before .before .before .before .before .before .before .before .choose .ensures) ∙ c .before .before .before .before .before .before .before .before .before .before .before .before .before .choice2 .given .1)) (c .before .before .before .before .before .before .before .before .before .before .before .before .before .before .before .before .before .before .pre .0), (far-ready (c .before .before .before .before .before .before .before .before .before .before .before .before .before .before .before .before .before .before .pre .1 .0) (c .before .far .ensures) (line-within _ _ _ (sym (c .before .before .before .before .before .before .before .before .before .before .before .before .before .before .before .choose .ensures) ∙ c .before .before .before .before .before .before .before .before .before .before .before .before .before .choice2 .given .1)), far-room _ _ _ _ (room-as (nodes-line _ _ _ (real-of (c .before .before .before .before .before .before .before .before .before .before .before .before .before .before .before .before .before .before .pre .1 .0)) (sym (c .before .before .before .before .before .before .before .before .before .before .before .before .before .before .before .choose .ensures) ∙ c .before .before .before .before .before .before .before .before .before .before .before .before .before .choice2 .given .1) (c .before .before .before .before .before .before .near .ensures) (c .before .far .ensures)) (c .before .before .before .before .before .before .before .before .before .before .before .before .before .before .before .before .before .before .pre .1 .1)) (wrote-letter _ (c .before .before .before .before .before .before .before .before .before .before .letter-of .ensures) (c .before .before .before .before .before .before .before .before .before .write-node3 .ensures)) (c .before .before .before .before .write .ensures)))
 
--- src/lib.rt:383:54
-write-mul-wide : (t : ℕ) → write-lts.Need-mul-wide (
-  choose-reads.Asked,
-  choose-reads.Learnt,
-  write-node-reads.Asked,
-  write-node-reads.Learnt,
-  letter-of-reads.Asked,
-  letter-of-reads.Learnt,
-  near-reads.Asked,
-  near-reads.Learnt,
-  write-below t,
-  write.Post,
-  far-reads.Asked,
-  far-reads.Learnt,
-  wide-reads.Asked,
-  wide-reads.Learnt,
-  write-trimmed-reads.Asked,
-  write-trimmed-reads.Learnt,
-) (write-at t) write.Post
-write-mul-wide t c = ?
+write-enum-known-choice-3 : (t : ℕ) → write-lts.Need-enum-known-choice-3 (write-calls t) (write-at t) write.Post
+write-enum-known-choice-3 t c = search needs
 
--- src/lib.rt:383:54
-write-element-copy-out-wide : (t : ℕ) → write-lts.Need-element-copy-out-wide (
-  choose-reads.Asked,
-  choose-reads.Learnt,
-  write-node-reads.Asked,
-  write-node-reads.Learnt,
-  letter-of-reads.Asked,
-  letter-of-reads.Learnt,
-  near-reads.Asked,
-  near-reads.Learnt,
-  write-below t,
-  write.Post,
-  far-reads.Asked,
-  far-reads.Learnt,
-  wide-reads.Asked,
-  wide-reads.Learnt,
-  write-trimmed-reads.Asked,
-  write-trimmed-reads.Learnt,
-) (write-at t) write.Post
-write-element-copy-out-wide t c = ?
+write-write-piece-out-requires : (t : ℕ) → write-lts.Need-write-piece-out-requires (write-calls t) (write-at t) write.Post
+unfolding rowsOf
+write-write-piece-out-requires t c κs = (room-as (nodes-trim _ _ _ (real-of (c .before .before .before .before .before .before .before .pre .1 .0)) (sym (c .before .before .before .before .choose .ensures) ∙ c .before .before .choice3 .given .1)) (c .before .before .before .before .before .before .before .pre .1 .1), trim-among _ _ _ (c .before .before .before .before .before .before .before .pre .1 .0 .few) (sym (c .before .before .before .before .choose .ensures) ∙ c .before .before .choice3 .given .1))
 
--- src/lib.rt:383:49
-write-wide-requires : (t : ℕ) → write-lts.Need-wide-requires (
-  choose-reads.Asked,
-  choose-reads.Learnt,
-  write-node-reads.Asked,
-  write-node-reads.Learnt,
-  letter-of-reads.Asked,
-  letter-of-reads.Learnt,
-  near-reads.Asked,
-  near-reads.Learnt,
-  write-below t,
-  write.Post,
-  far-reads.Asked,
-  far-reads.Learnt,
-  wide-reads.Asked,
-  wide-reads.Learnt,
-  write-trimmed-reads.Asked,
-  write-trimmed-reads.Learnt,
-) (write-at t) write.Post
-write-wide-requires t c κs = ?
+write-enum-told-2 : (t : ℕ) → write-lts.Need-enum-told-2 (write-calls t) (write-at t) write.Post
+write-enum-told-2 t c = search needs
 
--- src/lib.rt:383:71
-write-mul-wide-2 : (t : ℕ) → write-lts.Need-mul-wide-2 (
-  choose-reads.Asked,
-  choose-reads.Learnt,
-  write-node-reads.Asked,
-  write-node-reads.Learnt,
-  letter-of-reads.Asked,
-  letter-of-reads.Learnt,
-  near-reads.Asked,
-  near-reads.Learnt,
-  write-below t,
-  write.Post,
-  far-reads.Asked,
-  far-reads.Learnt,
-  wide-reads.Asked,
-  wide-reads.Learnt,
-  write-trimmed-reads.Asked,
-  write-trimmed-reads.Learnt,
-) (write-at t) write.Post
-write-mul-wide-2 t c = ?
+write-write-node-requires-4 : (t : ℕ) → write-lts.Need-write-node-requires-4 (write-calls t) (write-at t) write.Post
+write-write-node-requires-4 t c κs = (node-space _ _ (room-as (nodes-nothing _ _ _ (real-of (c .before .before .before .before .before .before .pre .1 .0)) (sym (c .before .before .before .choose .ensures) ∙ c .before .enum-told2 .given .1)) (c .before .before .before .before .before .before .pre .1 .1)), omega arith)
 
--- src/lib.rt:383:71
-write-element-copy-out-wide-2 : (t : ℕ) → write-lts.Need-element-copy-out-wide-2 (
-  choose-reads.Asked,
-  choose-reads.Learnt,
-  write-node-reads.Asked,
-  write-node-reads.Learnt,
-  letter-of-reads.Asked,
-  letter-of-reads.Learnt,
-  near-reads.Asked,
-  near-reads.Learnt,
-  write-below t,
-  write.Post,
-  far-reads.Asked,
-  far-reads.Learnt,
-  wide-reads.Asked,
-  wide-reads.Learnt,
-  write-trimmed-reads.Asked,
-  write-trimmed-reads.Learnt,
-) (write-at t) write.Post
-write-element-copy-out-wide-2 t c = ?
+write-same-length : (t : ℕ) → write-lts.Need-same-length (write-calls t) (write-at t) write.Post
+write-same-length t c = search needs
 
--- src/lib.rt:383:66
-write-wide-requires-2 : (t : ℕ) → write-lts.Need-wide-requires-2 (
-  choose-reads.Asked,
-  choose-reads.Learnt,
-  write-node-reads.Asked,
-  write-node-reads.Learnt,
-  letter-of-reads.Asked,
-  letter-of-reads.Learnt,
-  near-reads.Asked,
-  near-reads.Learnt,
-  write-below t,
-  write.Post,
-  far-reads.Asked,
-  far-reads.Learnt,
-  wide-reads.Asked,
-  wide-reads.Learnt,
-  write-trimmed-reads.Asked,
-  write-trimmed-reads.Learnt,
-) (write-at t) write.Post
-write-wide-requires-2 t c κs = ?
+write-returns : (t : ℕ) → write-lts.Need-returns (write-calls t) (write-at t) write.Post
+write-returns t c = wrote-as (nodes-scrap _ _ _ (real-of (c .before .before .before .before .before .before .before .before .before .pre .1 .0)) (sym (c .before .before .before .before .before .before .choose .ensures) ∙ c .before .before .before .before .enum-told .given .1)) (c .before .before .write-node .ensures)
 
--- src/lib.rt:383:28
-write-write-trimmed-requires : (t : ℕ) → write-lts.Need-write-trimmed-requires (
-  choose-reads.Asked,
-  choose-reads.Learnt,
-  write-node-reads.Asked,
-  write-node-reads.Learnt,
-  letter-of-reads.Asked,
-  letter-of-reads.Learnt,
-  near-reads.Asked,
-  near-reads.Learnt,
-  write-below t,
-  write.Post,
-  far-reads.Asked,
-  far-reads.Learnt,
-  wide-reads.Asked,
-  wide-reads.Learnt,
-  write-trimmed-reads.Asked,
-  write-trimmed-reads.Learnt,
-) (write-at t) write.Post
-write-write-trimmed-requires t c κs = ?
+write-same-length-2 : (t : ℕ) → write-lts.Need-same-length-2 (write-calls t) (write-at t) write.Post
+write-same-length-2 t c = search needs
 
--- src/lib.rt:384:39
-write-enum-told-2 : (t : ℕ) → write-lts.Need-enum-told-2 (
-  choose-reads.Asked,
-  choose-reads.Learnt,
-  write-node-reads.Asked,
-  write-node-reads.Learnt,
-  letter-of-reads.Asked,
-  letter-of-reads.Learnt,
-  near-reads.Asked,
-  near-reads.Learnt,
-  write-below t,
-  write.Post,
-  far-reads.Asked,
-  far-reads.Learnt,
-  wide-reads.Asked,
-  wide-reads.Learnt,
-  write-trimmed-reads.Asked,
-  write-trimmed-reads.Learnt,
-) (write-at t) write.Post
-write-enum-told-2 t c = ?
+write-returns-2 : (t : ℕ) → write-lts.Need-returns-2 (write-calls t) (write-at t) write.Post
+write-returns-2 t c = wrote-as (nodes-piece _ _ _ (real-of (c .before .before .before .before .before .before .before .before .before .before .pre .1 .0)) (sym (c .before .before .before .before .before .before .before .choose .ensures) ∙ c .before .before .before .before .before .choice .given .1)) (c .before .before .write-node2 .ensures)
 
--- src/lib.rt:384:28
-write-write-node-requires-4 : (t : ℕ) → write-lts.Need-write-node-requires-4 (
-  choose-reads.Asked,
-  choose-reads.Learnt,
-  write-node-reads.Asked,
-  write-node-reads.Learnt,
-  letter-of-reads.Asked,
-  letter-of-reads.Learnt,
-  near-reads.Asked,
-  near-reads.Learnt,
-  write-below t,
-  write.Post,
-  far-reads.Asked,
-  far-reads.Learnt,
-  wide-reads.Asked,
-  wide-reads.Learnt,
-  write-trimmed-reads.Asked,
-  write-trimmed-reads.Learnt,
-) (write-at t) write.Post
-write-write-node-requires-4 t c κs = ?
+write-same-length-3 : (t : ℕ) → write-lts.Need-same-length-3 (write-calls t) (write-at t) write.Post
+write-same-length-3 t c = search needs
 
--- src/lib.rt:354:1
-write-same-length : (t : ℕ) → write-lts.Need-same-length (
-  choose-reads.Asked,
-  choose-reads.Learnt,
-  write-node-reads.Asked,
-  write-node-reads.Learnt,
-  letter-of-reads.Asked,
-  letter-of-reads.Learnt,
-  near-reads.Asked,
-  near-reads.Learnt,
-  write-below t,
-  write.Post,
-  far-reads.Asked,
-  far-reads.Learnt,
-  wide-reads.Asked,
-  wide-reads.Learnt,
-  write-trimmed-reads.Asked,
-  write-trimmed-reads.Learnt,
-) (write-at t) write.Post
-write-same-length t c = ?
+write-returns-3 : (t : ℕ) → write-lts.Need-returns-3 (write-calls t) (write-at t) write.Post
+write-returns-3 t c = wrote-as (nodes-line _ _ _ (real-of (c .before .before .before .before .before .before .before .before .before .before .before .before .before .before .before .before .before .before .before .before .before .pre .1 .0)) (sym (c .before .before .before .before .before .before .before .before .before .before .before .before .before .before .before .before .before .before .choose .ensures) ∙ c .before .before .before .before .before .before .before .before .before .before .before .before .before .before .before .before .choice2 .given .1) (c .before .before .before .before .before .before .before .before .before .near .ensures) (c .before .before .before .before .far .ensures)) (wrote-line _ _ _ _ (room-as (nodes-line _ _ _ (real-of (c .before .before .before .before .before .before .before .before .before .before .before .before .before .before .before .before .before .before .before .before .before .pre .1 .0)) (sym (c .before .before .before .before .before .before .before .before .before .before .before .before .before .before .before .before .before .before .choose .ensures) ∙ c .before .before .before .before .before .before .before .before .before .before .before .before .before .before .before .before .choice2 .given .1) (c .before .before .before .before .before .before .before .before .before .near .ensures) (c .before .before .before .before .far .ensures)) (c .before .before .before .before .before .before .before .before .before .before .before .before .before .before .before .before .before .before .before .before .before .pre .1 .1)) (wrote-letter _ (c .before .before .before .before .before .before .before .before .before .before .before .before .before .letter-of .ensures) (c .before .before .before .before .before .before .before .before .before .before .before .before .write-node3 .ensures)) (c .before .before .before .before .before .before .before .write .ensures) (c .before .before .write2 .ensures))
 
--- src/lib.rt:354:1
-write-returns : (t : ℕ) → write-lts.Need-returns (
-  choose-reads.Asked,
-  choose-reads.Learnt,
-  write-node-reads.Asked,
-  write-node-reads.Learnt,
-  letter-of-reads.Asked,
-  letter-of-reads.Learnt,
-  near-reads.Asked,
-  near-reads.Learnt,
-  write-below t,
-  write.Post,
-  far-reads.Asked,
-  far-reads.Learnt,
-  wide-reads.Asked,
-  wide-reads.Learnt,
-  write-trimmed-reads.Asked,
-  write-trimmed-reads.Learnt,
-) (write-at t) write.Post
-write-returns t c = ?
+write-same-length-4 : (t : ℕ) → write-lts.Need-same-length-4 (write-calls t) (write-at t) write.Post
+write-same-length-4 t c = search needs
 
--- src/lib.rt:354:1
-write-same-length-2 : (t : ℕ) → write-lts.Need-same-length-2 (
-  choose-reads.Asked,
-  choose-reads.Learnt,
-  write-node-reads.Asked,
-  write-node-reads.Learnt,
-  letter-of-reads.Asked,
-  letter-of-reads.Learnt,
-  near-reads.Asked,
-  near-reads.Learnt,
-  write-below t,
-  write.Post,
-  far-reads.Asked,
-  far-reads.Learnt,
-  wide-reads.Asked,
-  wide-reads.Learnt,
-  write-trimmed-reads.Asked,
-  write-trimmed-reads.Learnt,
-) (write-at t) write.Post
-write-same-length-2 t c = ?
+write-returns-4 : (t : ℕ) → write-lts.Need-returns-4 (write-calls t) (write-at t) write.Post
+unfolding rowsOf
+write-returns-4 t c = wrote-as (nodes-trim _ _ _ (real-of (c .before .before .before .before .before .before .before .before .before .before .pre .1 .0)) (sym (c .before .before .before .before .before .before .before .choose .ensures) ∙ c .before .before .before .before .before .choice3 .given .1)) (c .before .before .write-piece-out .ensures)
 
--- src/lib.rt:354:1
-write-returns-2 : (t : ℕ) → write-lts.Need-returns-2 (
-  choose-reads.Asked,
-  choose-reads.Learnt,
-  write-node-reads.Asked,
-  write-node-reads.Learnt,
-  letter-of-reads.Asked,
-  letter-of-reads.Learnt,
-  near-reads.Asked,
-  near-reads.Learnt,
-  write-below t,
-  write.Post,
-  far-reads.Asked,
-  far-reads.Learnt,
-  wide-reads.Asked,
-  wide-reads.Learnt,
-  write-trimmed-reads.Asked,
-  write-trimmed-reads.Learnt,
-) (write-at t) write.Post
-write-returns-2 t c = ?
+write-same-length-5 : (t : ℕ) → write-lts.Need-same-length-5 (write-calls t) (write-at t) write.Post
+write-same-length-5 t c = search needs
 
--- src/lib.rt:354:1
-write-same-length-3 : (t : ℕ) → write-lts.Need-same-length-3 (
-  choose-reads.Asked,
-  choose-reads.Learnt,
-  write-node-reads.Asked,
-  write-node-reads.Learnt,
-  letter-of-reads.Asked,
-  letter-of-reads.Learnt,
-  near-reads.Asked,
-  near-reads.Learnt,
-  write-below t,
-  write.Post,
-  far-reads.Asked,
-  far-reads.Learnt,
-  wide-reads.Asked,
-  wide-reads.Learnt,
-  write-trimmed-reads.Asked,
-  write-trimmed-reads.Learnt,
-) (write-at t) write.Post
-write-same-length-3 t c = ?
-
--- src/lib.rt:354:1
-write-returns-3 : (t : ℕ) → write-lts.Need-returns-3 (
-  choose-reads.Asked,
-  choose-reads.Learnt,
-  write-node-reads.Asked,
-  write-node-reads.Learnt,
-  letter-of-reads.Asked,
-  letter-of-reads.Learnt,
-  near-reads.Asked,
-  near-reads.Learnt,
-  write-below t,
-  write.Post,
-  far-reads.Asked,
-  far-reads.Learnt,
-  wide-reads.Asked,
-  wide-reads.Learnt,
-  write-trimmed-reads.Asked,
-  write-trimmed-reads.Learnt,
-) (write-at t) write.Post
-write-returns-3 t c = ?
-
--- src/lib.rt:354:1
-write-same-length-4 : (t : ℕ) → write-lts.Need-same-length-4 (
-  choose-reads.Asked,
-  choose-reads.Learnt,
-  write-node-reads.Asked,
-  write-node-reads.Learnt,
-  letter-of-reads.Asked,
-  letter-of-reads.Learnt,
-  near-reads.Asked,
-  near-reads.Learnt,
-  write-below t,
-  write.Post,
-  far-reads.Asked,
-  far-reads.Learnt,
-  wide-reads.Asked,
-  wide-reads.Learnt,
-  write-trimmed-reads.Asked,
-  write-trimmed-reads.Learnt,
-) (write-at t) write.Post
-write-same-length-4 t c = ?
-
--- src/lib.rt:354:1
-write-returns-4 : (t : ℕ) → write-lts.Need-returns-4 (
-  choose-reads.Asked,
-  choose-reads.Learnt,
-  write-node-reads.Asked,
-  write-node-reads.Learnt,
-  letter-of-reads.Asked,
-  letter-of-reads.Learnt,
-  near-reads.Asked,
-  near-reads.Learnt,
-  write-below t,
-  write.Post,
-  far-reads.Asked,
-  far-reads.Learnt,
-  wide-reads.Asked,
-  wide-reads.Learnt,
-  write-trimmed-reads.Asked,
-  write-trimmed-reads.Learnt,
-) (write-at t) write.Post
-write-returns-4 t c = ?
-
--- src/lib.rt:354:1
-write-same-length-5 : (t : ℕ) → write-lts.Need-same-length-5 (
-  choose-reads.Asked,
-  choose-reads.Learnt,
-  write-node-reads.Asked,
-  write-node-reads.Learnt,
-  letter-of-reads.Asked,
-  letter-of-reads.Learnt,
-  near-reads.Asked,
-  near-reads.Learnt,
-  write-below t,
-  write.Post,
-  far-reads.Asked,
-  far-reads.Learnt,
-  wide-reads.Asked,
-  wide-reads.Learnt,
-  write-trimmed-reads.Asked,
-  write-trimmed-reads.Learnt,
-) (write-at t) write.Post
-write-same-length-5 t c = ?
-
--- src/lib.rt:354:1
-write-returns-5 : (t : ℕ) → write-lts.Need-returns-5 (
-  choose-reads.Asked,
-  choose-reads.Learnt,
-  write-node-reads.Asked,
-  write-node-reads.Learnt,
-  letter-of-reads.Asked,
-  letter-of-reads.Learnt,
-  near-reads.Asked,
-  near-reads.Learnt,
-  write-below t,
-  write.Post,
-  far-reads.Asked,
-  far-reads.Learnt,
-  wide-reads.Asked,
-  wide-reads.Learnt,
-  write-trimmed-reads.Asked,
-  write-trimmed-reads.Learnt,
-) (write-at t) write.Post
-write-returns-5 t c = ?
+write-returns-5 : (t : ℕ) → write-lts.Need-returns-5 (write-calls t) (write-at t) write.Post
+write-returns-5 t c = wrote-as (nodes-nothing _ _ _ (real-of (c .before .before .before .before .before .before .before .before .before .pre .1 .0)) (sym (c .before .before .before .before .before .before .choose .ensures) ∙ c .before .before .before .before .enum-told2 .given .1)) (c .before .before .write-node4 .ensures)
 
 pub +write-spec : {M : Type 1} → statement M
-+write-spec = close μ-write λ t. write-lts.spec (
-  choose-reads.Asked,
-  choose-reads.Learnt,
-  write-node-reads.Asked,
-  write-node-reads.Learnt,
-  letter-of-reads.Asked,
-  letter-of-reads.Learnt,
-  near-reads.Asked,
-  near-reads.Learnt,
-  write-below t,
-  write.Post,
-  far-reads.Asked,
-  far-reads.Learnt,
-  wide-reads.Asked,
-  wide-reads.Learnt,
-  write-trimmed-reads.Asked,
-  write-trimmed-reads.Learnt,
-)
-    (write-at t)
-    write.Post
++write-spec = close μ-write λ t. write-lts.spec (write-calls t) (write-at t) write.Post
     (write-choose-requires t)
     (write-enum-told t)
     (write-write-node-requires t)
@@ -751,13 +138,7 @@ pub +write-spec : {M : Type 1} → statement M
     (write-far-requires t)
     (write-write-requires-2 t)
     (write-enum-known-choice-3 t)
-    (write-mul-wide t)
-    (write-element-copy-out-wide t)
-    (write-wide-requires t)
-    (write-mul-wide-2 t)
-    (write-element-copy-out-wide-2 t)
-    (write-wide-requires-2 t)
-    (write-write-trimmed-requires t)
+    (write-write-piece-out-requires t)
     (write-enum-told-2 t)
     (write-write-node-requires-4 t)
     (write-same-length t)

@@ -49,7 +49,7 @@ suits-requires : tie.Need-suits-requires Inv-loop μ-loop
 suits-requires c κs = search needs
 
 returns : tie.Need-returns Inv-loop μ-loop
-returns c = piece-stop _ _ _ _ _ _ _ _ (c .before .before .before .before .before .before .before .before .before .loop .inv .1) (c .before .before .before .before .before .before .before .before .loop-test .taken) (suits-read _ _ _ (c .before .before .before .before .before .before .wide .ensures) (c .before .before .before .before .wide2 .ensures) (c .before .before .wide3 .ensures) (c .before .suits .ensures) (c .if1 .taken))
+returns c = piece-stop _ _ _ _ _ _ _ _ (c .before .before .before .before .before .before .before .before .before .loop .inv .1) (c .before .before .before .before .before .before .before .before .loop-test .taken) (suits-read _ _ _ (c .before .before .before .before .before .before .wide .ensures .0) (c .before .before .before .before .wide2 .ensures .0) (c .before .before .wide3 .ensures .0) (c .before .suits .ensures) (c .if1 .taken))
 
 add-k : tie.Need-add-k Inv-loop μ-loop
 add-k c = omega arith
@@ -58,10 +58,10 @@ loop-less : tie.Need-loop-less Inv-loop μ-loop
 loop-less c = omega arith
 
 loop-again : tie.Need-loop-again Inv-loop μ-loop
-loop-again c = (omega arith, piece-more _ _ _ _ _ _ _ (c .before .before .before .before .before .before .before .before .before .loop .inv .1) (suits-read _ _ _ (c .before .before .before .before .before .before .wide .ensures) (c .before .before .before .before .wide2 .ensures) (c .before .before .wide3 .ensures) (c .before .suits .ensures) (c .if1 .left)))
+loop-again c = (omega arith, piece-more _ _ _ _ _ _ _ (c .before .before .before .before .before .before .before .before .before .loop .inv .1) (suits-read _ _ _ (c .before .before .before .before .before .before .wide .ensures .0) (c .before .before .before .before .wide2 .ensures .0) (c .before .before .wide3 .ensures .0) (c .before .suits .ensures) (c .if1 .left)))
 
 returns-2 : tie.Need-returns-2 Inv-loop μ-loop
-returns-2 c = 
+returns-2 c =
     let end : c .before .loop .k ≡ c .before .before .args .count = omega arith in
     rw (← end) (sym (c .before .loop .inv .1))
 

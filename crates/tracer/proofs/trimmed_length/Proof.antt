@@ -35,7 +35,7 @@ add-result-2 : tie.Need-add-result-2
 add-result-2 c = search needs
 
 returns : tie.Need-returns
-returns c = trim-both _ _ (c .before .before .before .before .wide .ensures) (c .before .wide2 .ensures) (c .before .before .before .trim-length .ensures .0) (c .trim-length2 .ensures .0)
+returns c = trim-both _ _ (c .before .before .before .before .wide .ensures .0) (c .before .wide2 .ensures .0) (c .before .before .before .trim-length .ensures .0) (c .trim-length2 .ensures .0)
 
 pub trimmed-length-spec : {M : Type 1} → statement M
 trimmed-length-spec =

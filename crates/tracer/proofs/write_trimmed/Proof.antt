@@ -1,42 +1,42 @@
+-- `tracer::write_trimmed` meets its contract: first the vertical line, in its left part the horizontal one.
+use mathlib.Core.Bool.{false}
+use native.Mathlib.Omega.{arith}
+use Rattle.nodes.specs.Encoding.{encode}
+use Rattle.tracer.specs.Traced.{letterOf, trimmed}
+use Rattle.tracer.proofs.Wrote.{node-space, line-room, near-room, far-room, wrote-line, cut-room, whole-room, wrote-cut, wrote-whole}
 use borrow.Author.Needs.{needs}
 use Rattle.tracer.proofs.write_trimmed.Statement.{statement}
 use Rattle.tracer.proofs.write_trimmed.Tie as tie
-use Rattle.tracer.proofs.write_trimmed.Reads as reads
-use Rattle.tracer.proofs.write_trimmed.Lts as lts
-use Rattle.tracer.proofs.write_node.Reads as write-node-reads
-use Rattle.tracer.proofs.write_up.Reads as write-up-reads
 
--- src/lib.rt:346:9
 write-up-requires : tie.Need-write-up-requires
-write-up-requires c κs = ?
+unfolding encode letterOf trimmed
+write-up-requires c κs = (whole-room false _ _ _ (c .before .if1 .taken) (c .before .before .before .before .pre .0), c .before .before .before .before .pre .2, c .before .before .before .before .pre .3)
 
--- src/lib.rt:346:9
 same-length : tie.Need-same-length
 same-length c = search needs
 
--- src/lib.rt:346:9
 returns : tie.Need-returns
-returns c = ?
+unfolding encode letterOf trimmed
+returns c = wrote-whole false _ _ _ (c .before .before .before .before .if1 .taken) (c .before .before .write-up .ensures)
 
--- src/lib.rt:348:9
 write-node-requires : tie.Need-write-node-requires
-write-node-requires c κs = ?
+unfolding encode letterOf trimmed
+write-node-requires c κs = (node-space _ _ (line-room _ _ _ _ (cut-room false _ _ _ (c .before .if1 .left) (c .before .before .before .before .pre .0))), c .before .before .before .before .pre .1)
 
--- src/lib.rt:349:9
 write-up-requires-2 : tie.Need-write-up-requires-2
-write-up-requires-2 c κs = ?
+unfolding encode letterOf trimmed
+write-up-requires-2 c κs = (near-room _ _ _ _ (cut-room false _ _ _ (c .before .before .before .before .before .if1 .left) (c .before .before .before .before .before .before .before .before .pre .0)) (c .before .before .before .write-node .ensures), c .before .before .before .before .before .before .before .before .pre .2, c .before .before .before .before .before .before .before .before .pre .3)
 
--- src/lib.rt:350:5
 write-node-requires-2 : tie.Need-write-node-requires-2
-write-node-requires-2 c κs = ?
+unfolding encode letterOf trimmed
+write-node-requires-2 c κs = (node-space _ _ (far-room _ _ _ _ (cut-room false _ _ _ (c .before .before .before .before .before .before .before .before .before .if1 .left) (c .before .before .before .before .before .before .before .before .before .before .before .before .pre .0)) (c .before .before .before .before .before .before .before .write-node .ensures) (c .before .before .before .write-up2 .ensures)), omega arith)
 
--- src/lib.rt:340:1
 same-length-2 : tie.Need-same-length-2
 same-length-2 c = search needs
 
--- src/lib.rt:340:1
 returns-2 : tie.Need-returns-2
-returns-2 c = ?
+unfolding encode letterOf trimmed
+returns-2 c = wrote-cut false _ _ _ (c .before .before .before .before .before .before .before .before .before .before .before .before .if1 .left) (wrote-line _ _ _ _ (cut-room false _ _ _ (c .before .before .before .before .before .before .before .before .before .before .before .before .if1 .left) (c .before .before .before .before .before .before .before .before .before .before .before .before .before .before .before .pre .0)) (c .before .before .before .before .before .before .before .before .before .before .write-node .ensures) (c .before .before .before .before .before .before .write-up2 .ensures) (c .before .before .write-node2 .ensures))
 
 pub write-trimmed-spec : {M : Type 1} → statement M
 write-trimmed-spec =

@@ -1,49 +1,48 @@
+-- `tracer::write_up` meets its contract.
+use mathlib.Core.Bool.{true}
+use native.Mathlib.Omega.{arith}
+use Rattle.nodes.specs.Encoding.{encode}
+use Rattle.tracer.specs.Traced.{letterOf}
+use Rattle.tracer.proofs.Wrote.{node-space, line-room, near-room, far-room, wrote-line, cut-room, whole-room, wrote-cut, wrote-whole}
 use borrow.Author.Needs.{needs}
 use Rattle.tracer.proofs.write_up.Statement.{statement}
 use Rattle.tracer.proofs.write_up.Tie as tie
-use Rattle.tracer.proofs.write_up.Reads as reads
-use Rattle.tracer.proofs.write_up.Lts as lts
-use Rattle.tracer.proofs.write_node.Reads as write-node-reads
 
--- src/lib.rt:332:40
 add-write-node : tie.Need-add-write-node
 add-write-node c = search needs
 
--- src/lib.rt:332:9
 write-node-requires : tie.Need-write-node-requires
-write-node-requires c κs = ?
+unfolding encode letterOf
+write-node-requires c κs = (node-space _ _ (whole-room true _ _ _ (c .before .if1 .taken) (c .before .before .before .pre .0)), omega arith)
 
--- src/lib.rt:332:9
 same-length : tie.Need-same-length
 same-length c = search needs
 
--- src/lib.rt:332:9
 returns : tie.Need-returns
-returns c = ?
+unfolding encode letterOf
+returns c = wrote-whole true _ _ _ (c .before .before .before .before .if1 .taken) (c .before .before .write-node .ensures)
 
--- src/lib.rt:334:9
 write-node-requires-2 : tie.Need-write-node-requires-2
-write-node-requires-2 c κs = ?
+unfolding encode letterOf
+write-node-requires-2 c κs = (node-space _ _ (line-room _ _ _ _ (cut-room true _ _ _ (c .before .if1 .left) (c .before .before .before .pre .0))), omega arith)
 
--- src/lib.rt:335:42
 add-write-node-2 : tie.Need-add-write-node-2
 add-write-node-2 c = search needs
 
--- src/lib.rt:335:9
 write-node-requires-3 : tie.Need-write-node-requires-3
-write-node-requires-3 c κs = ?
+unfolding encode letterOf
+write-node-requires-3 c κs = (node-space _ _ (near-room _ _ _ _ (cut-room true _ _ _ (c .before .before .before .before .before .if1 .left) (c .before .before .before .before .before .before .before .pre .0)) (c .before .before .before .write-node2 .ensures)), omega arith)
 
--- src/lib.rt:336:5
 write-node-requires-4 : tie.Need-write-node-requires-4
-write-node-requires-4 c κs = ?
+unfolding encode letterOf
+write-node-requires-4 c κs = (node-space _ _ (far-room _ _ _ _ (cut-room true _ _ _ (c .before .before .before .before .before .before .before .before .before .if1 .left) (c .before .before .before .before .before .before .before .before .before .before .before .pre .0)) (c .before .before .before .before .before .before .before .write-node2 .ensures) (c .before .before .before .write-node3 .ensures)), omega arith)
 
--- src/lib.rt:326:1
 same-length-2 : tie.Need-same-length-2
 same-length-2 c = search needs
 
--- src/lib.rt:326:1
 returns-2 : tie.Need-returns-2
-returns-2 c = ?
+unfolding encode letterOf
+returns-2 c = wrote-cut true _ _ _ (c .before .before .before .before .before .before .before .before .before .before .before .before .if1 .left) (wrote-line _ _ _ _ (cut-room true _ _ _ (c .before .before .before .before .before .before .before .before .before .before .before .before .if1 .left) (c .before .before .before .before .before .before .before .before .before .before .before .before .before .before .pre .0)) (c .before .before .before .before .before .before .before .before .before .before .write-node2 .ensures) (c .before .before .before .before .before .before .write-node3 .ensures) (c .before .before .write-node4 .ensures))
 
 pub write-up-spec : {M : Type 1} → statement M
 write-up-spec =

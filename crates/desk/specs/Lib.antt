@@ -2,3 +2,4 @@
 pub mod Refusals
 pub mod Changing
 pub mod Asking
+pub mod Promise

@@ -1,6 +1,7 @@
 // Open, add, correct, remove: each answers its number and the job, and empties exactly the cells that the change can touch.
 ghost use mathlib.Core.Path.{_≡_};
-ghost use Rattle.desk.specs.Changing.{opened, openedCells, addedJob, addedCells, correctedJob, correctedCells, removedJob, removedCells, emptiedSize, recordOfPiece};
+ghost use Rattle.desk.specs.Changing.{emptiedSize, recordOfPiece};
+ghost use Rattle.desk.specs.Promise.{OpenPromise, AddPromise, CorrectPromise, RemovePromise};
 ghost use Prim.Native.Nat.{_≤_};
 ghost use Rattle.cutting.specs.Limits.{piecesMax};
 ghost use Rattle.desk.specs.Refusals.{Usable, IsNumber};
@@ -43,8 +44,7 @@ fn empty_size(job: Job, t: &mut [u32], size: Piece)
 
 // Empties the cells of the sheet width by height and answers a job with no pieces.
 pub fn open(width: u32, height: u32, t: &mut [u32]) -> Changed
-    ensures { λ r. ⌜ r ≡ opened width height (now (t .entry)) ⌝ }
-    ensures { λ _. ⌜ now (t .exit) ≡ openedCells width height (now (t .entry)) ⌝ }
+    ensures { λ r. ⌜ OpenPromise width height (now (t .entry)) r (now (t .exit)) ⌝ }
 {
     let refused = refusal::open_refused(width, height, t);
     if refused != 0 {
@@ -64,8 +64,7 @@ pub fn open(width: u32, height: u32, t: &mut [u32]) -> Changed
 
 // Adds a piece behind the others.
 pub fn add(job: Job, t: &mut [u32], piece: Piece) -> Changed
-    ensures { λ r. ⌜ r ≡ addedJob job (now (t .entry)) piece ⌝ }
-    ensures { λ _. ⌜ now (t .exit) ≡ addedCells job (now (t .entry)) piece ⌝ }
+    ensures { λ r. ⌜ AddPromise job (now (t .entry)) piece r (now (t .exit)) ⌝ }
 {
     let refused = refusal::add_refused(job, t, piece);
     if refused != 0 {
@@ -84,8 +83,7 @@ pub fn add(job: Job, t: &mut [u32], piece: Piece) -> Changed
 
 // Puts another record in the place of piece `number`. What the old size or the new one could touch is forgotten.
 pub fn correct(job: Job, t: &mut [u32], number: u32, piece: Piece) -> Changed
-    ensures { λ r. ⌜ r ≡ correctedJob job (now (t .entry)) number piece ⌝ }
-    ensures { λ _. ⌜ now (t .exit) ≡ correctedCells job (now (t .entry)) number piece ⌝ }
+    ensures { λ r. ⌜ CorrectPromise job (now (t .entry)) number piece r (now (t .exit)) ⌝ }
 {
     let refused = refusal::correct_refused(job, t, number, piece);
     if refused != 0 {
@@ -105,8 +103,7 @@ pub fn correct(job: Job, t: &mut [u32], number: u32, piece: Piece) -> Changed
 
 // Takes piece `number` out; later pieces move down by one number.
 pub fn remove(job: Job, t: &mut [u32], number: u32) -> Changed
-    ensures { λ r. ⌜ r ≡ removedJob job (now (t .entry)) number ⌝ }
-    ensures { λ _. ⌜ now (t .exit) ≡ removedCells job (now (t .entry)) number ⌝ }
+    ensures { λ r. ⌜ RemovePromise job (now (t .entry)) number r (now (t .exit)) ⌝ }
 {
     let refused = refusal::remove_refused(job, t, number);
     if refused != 0 {

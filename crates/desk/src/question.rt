@@ -5,7 +5,8 @@ ghost use Rattle.cells.specs.Cells.{cellOf};
 ghost use Rattle.cells.specs.Box.{isEmpty, countInBox};
 ghost use Rattle.fill.specs.Filled.{Bounded};
 ghost use Rattle.desk.specs.Refusals.{Usable};
-ghost use Rattle.desk.specs.Asking.{asked, askedCells, filledFor};
+ghost use Rattle.desk.specs.Asking.{filledFor};
+ghost use Rattle.desk.specs.Promise.{AskPromise};
 use crate::Asked;
 use crate::refusal;
 use job::Job;
@@ -38,8 +39,7 @@ fn fill_for(job: Job, t: &mut [u32], x: usize, y: usize) -> u32
 
 // The best value of x by y, and the number of cells that had to be worked out for it.
 pub fn ask(job: Job, t: &mut [u32], x: u32, y: u32) -> Asked
-    ensures { λ r. ⌜ r ≡ asked job (now (t .entry)) x y ⌝ }
-    ensures { λ _. ⌜ now (t .exit) ≡ askedCells job (now (t .entry)) x y ⌝ }
+    ensures { λ r. ⌜ AskPromise job (now (t .entry)) x y r (now (t .exit)) ⌝ }
 {
     let refused = refusal::ask_refused(job, t, x, y);
     if refused != 0 {

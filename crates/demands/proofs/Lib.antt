@@ -1,0 +1,5 @@
+-- The three demands.
+pub mod Outcome
+pub mod Changes
+pub mod Questions
+pub mod Demands

@@ -1,0 +1,54 @@
+-- "Open, then add, correct, remove and ask in any order, refused calls among them", each call given the job last returned.
+-- An answer in a history is any answer that keeps the call's promise, whoever's library gave it.
+use Prim.Native.Nat.{ℕ}
+use mathlib.Core.List.{List}
+use mathlib.Core.Logic.{_⊎_}
+use mathlib.Core.Path.{_≡_}
+use Rattle.cutting.specs.Piece.{Fits, Inside, Lays}
+use Rattle.cutting.specs.Dissection.{Best}
+use Rattle.cells.specs.Cells.{empty, cellOf}
+use Rattle.job.specs.declared.Piece.{Piece as Record}
+use Rattle.job.specs.declared.Job.{Job}
+use Rattle.job.specs.Job.{piecesOf}
+use Rattle.desk.specs.declared.Changed.{Changed}
+use Rattle.desk.specs.declared.Asked.{Asked}
+use Rattle.desk.specs.Changing.{recordOfPiece}
+use Rattle.desk.specs.Asking.{numbersOf}
+use Rattle.desk.specs.Promise.{OpenPromise, AddPromise, CorrectPromise, RemovePromise, AskPromise}
+
+-- A history that ends with this job and this table.
+pub data History : Job → List ℕ → Type 0 where
+  opening : (a b : ℕ) (t : List ℕ) {t' : List ℕ} {r : Changed} → OpenPromise a b t r t' → r .refusal ≡ 0 → History (r .job) t'
+  adding : {job : Job} {t t' : List ℕ} {r : Changed} → History job t → (piece : Record) → AddPromise job t piece r t' → History (r .job) t'
+  correcting : {job : Job} {t t' : List ℕ} {r : Changed} → History job t → (k : ℕ) (piece : Record) → CorrectPromise job t k piece r t' → History (r .job) t'
+  removing : {job : Job} {t t' : List ℕ} {r : Changed} → History job t → (k : ℕ) → RemovePromise job t k r t' → History (r .job) t'
+  asking : {job : Job} {t t' : List ℕ} {r : Asked} → History job t → (x y : ℕ) → AskPromise job t x y r t' → History job t'
+
+-- A record's size fits in u by w.
+abbrev pub SizeFits : Record → ℕ → ℕ → Type 0
+SizeFits size u w = Fits (size .width) (size .height) u w
+
+-- "an answered question has covered [the cell] since the opening and since the last accepted change whose old or new size fits in it"
+unfoldable pub Covered : {job : Job} {t : List ℕ} → History job t → ℕ → ℕ → Type 0
+Covered (opening a b t p e) u w = ⊥
+Covered (adding {r = r} h piece p) u w = Covered h u w × (r .refusal ≡ 0 → SizeFits piece u w → ⊥)
+Covered (correcting {job = job} {r = r} h k piece p) u w =
+    Covered h u w × (r .refusal ≡ 0 → SizeFits (recordOfPiece job k) u w ⊎ SizeFits piece u w → ⊥)
+Covered (removing {job = job} {r = r} h k p) u w = Covered h u w × (r .refusal ≡ 0 → SizeFits (recordOfPiece job k) u w → ⊥)
+Covered (asking {r = r} h x y p) u w = Covered h u w ⊎ ((numbersOf r .refusal ≡ 0) × Fits u w x y)
+
+-- The number in cell (u, w) of the job's sheet.
+abbrev pub cell : Job → List ℕ → ℕ → ℕ → ℕ
+cell job t u w = cellOf (job .width) t u w
+
+-- The cell holds a number.
+abbrev pub Filled : Job → List ℕ → ℕ → ℕ → Type 0
+Filled job t u w = cell job t u w ≡ empty → ⊥
+
+-- (u, w) is a cell of the job's sheet.
+abbrev pub OnSheet : Job → ℕ → ℕ → Type 0
+OnSheet job u w = Inside u w (job .width) (job .height)
+
+-- v is the best value of u by w "for the pieces as they stand".
+abbrev pub BestFor : Job → ℕ → ℕ → ℕ → Type 0
+BestFor job u w v = Best (Lays (piecesOf job)) u w v

@@ -1,0 +1,2 @@
+-- What the customer demands, over histories of calls on one table.
+pub mod History

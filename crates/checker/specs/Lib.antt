@@ -3,3 +3,5 @@ pub mod Refusals
 pub mod Fields
 pub mod Checked
 pub mod PlanFile
+pub mod Given
+pub mod Sheets

@@ -202,7 +202,8 @@ fn judge(file: &[u8], read: Part) -> Checked
     if next != trailer_at(file) {
         return Checked::Refused(NODES_BROKEN);
     }
-    if tally.value != stated_value(file) {
+    let stated = stated_value(file);
+    if tally.value != stated {
         return Checked::Refused(VALUE_DIFFERS);
     }
     Checked::Accepted {

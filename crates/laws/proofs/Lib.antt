@@ -9,3 +9,4 @@ pub mod Sums
 pub mod Filled
 pub mod Tests
 pub mod First
+pub mod Choice

@@ -141,3 +141,11 @@ valid-written n h k (Valid.lineV l s t) = (omega arith, valid-written n (omega a
 valid-written n h k (Valid.lineH l s t) = (omega arith, valid-written n h (omega arith) s, valid-written n h (omega arith) t)
 valid-written n h k (Valid.pieceP m) = omega (arith, m .last)
 valid-written n h k Valid.scrapS = tt
+
+-- A tree has one node at least.
+pub encode-least : (t : Tree) → nodeLength ≤ length (encode t)
+unfolding encode
+encode-least (Tree.lineV c s t) = omega (arith, length-append (node letterV c) (encode s ++ encode t), node-length letterV c)
+encode-least (Tree.lineH d s t) = omega (arith, length-append (node letterH d) (encode s ++ encode t), node-length letterH d)
+encode-least (Tree.pieceP k) = omega (arith, node-length letterP k)
+encode-least Tree.scrapS = omega (arith, node-length letterS 0)

@@ -8,6 +8,7 @@ use native.Mathlib.Omega.{arith}
 use lib.ListN.{length, getD}
 use lib.Dec.{leb, ltb, eqb}
 use Rattle.laws.specs.Says.{Says}
+use Rattle.laws.proofs.Choice.{chosen, not-chosen, either-way}
 use Rattle.laws.proofs.Says.{says-no, says-false, says-iff, says-and, says-le, says-lt, says-eq, says-same}
 use Rattle.laws.proofs.ByIndex.{byIndex-at, byIndex-length}
 use Rattle.cutting.specs.Piece.{Piece, noPiece, pieceAt, Numbered}
@@ -19,17 +20,6 @@ use Rattle.nodes.specs.Reader.{area, scrapTally, pieceTally, scrapNode, 
 use Rattle.nodes.specs.declared.Sides.{Sides}
 use Rattle.nodes.specs.declared.Frame.{Frame}
 use Rattle.nodes.specs.declared.Node.{Node}
-
--- A choice by a test is a choice by the fact that it stands for.
-pub chosen {ℓ} : {A : Type ℓ} {b : Bool} {P : Type 0} → Says b P → (m n : A) → P → cond b m n ≡ m
-chosen s m n p = rw (s .found p)
-
-pub not-chosen {ℓ} : {A : Type ℓ} {b : Bool} {P : Type 0} → Says b P → (m n : A) → (P → ⊥) → cond b m n ≡ n
-not-chosen s m n p = rw (says-no s p)
-
-pub either-way {ℓ} : {A : Type ℓ} {b : Bool} {P : Type 0} (X : A → Type 0) (s : Says b P) (m n : A) → (P → X m) → ((P → ⊥) → X n) → X (cond b m n)
-either-way {b = true} X s m n f g = f (s .means refl)
-either-way {b = false} X s m n f g = g (says-false s refl)
 
 pub isInside-says : (side c : ℕ) → Says (isInside side c) (Line side c (rest side c))
 unfolding isInside

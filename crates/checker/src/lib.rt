@@ -202,12 +202,13 @@ fn judge(file: &[u8], read: Part) -> Checked
     if next != trailer_at(file) {
         return Checked::Refused(NODES_BROKEN);
     }
+    let value = tally.value;
     let stated = stated_value(file);
-    if tally.value != stated {
+    if value != stated {
         return Checked::Refused(VALUE_DIFFERS);
     }
     Checked::Accepted {
-        value: tally.value,
+        value: value,
         note: narrowed(note_length(file)),
         piece_area: tally.pieces,
         scrap_area: tally.scrap,

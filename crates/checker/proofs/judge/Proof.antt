@@ -31,7 +31,7 @@ stated-value-requires : tie.Need-stated-value-requires
 stated-value-requires c κs = search needs
 
 returns-3 : tie.Need-returns-3
-returns-3 c = judged-value _ (c .before .before .before .before .before .before .read .given .1) (omega arith) (λ e. omega arith)
+returns-3 c = judged-value _ (c .before .before .before .before .before .read .given .1) (omega arith) (λ e. omega arith)
 
 note-length-requires : tie.Need-note-length-requires
 note-length-requires c κs = search needs
@@ -40,7 +40,7 @@ narrowed-requires : tie.Need-narrowed-requires
 narrowed-requires c κs = search needs
 
 returns-4 : tie.Need-returns-4
-returns-4 c = judged-yes _ (c .before .before .before .before .before .before .before .before .read .given .1) (omega arith) (omega arith) (c .narrowed .ensures ∙ c .before .note-length .ensures)
+returns-4 c = judged-yes _ (c .before .before .before .before .before .before .before .read .given .1) (omega arith) (omega arith) (c .narrowed .ensures ∙ c .before .note-length .ensures)
 
 pub judge-spec : {M : Type 1} → statement M
 judge-spec =

@@ -3,3 +3,6 @@ pub mod Outcome
 pub mod Changes
 pub mod Questions
 pub mod Demands
+pub mod Agree
+pub mod Sheets
+pub mod Impostors

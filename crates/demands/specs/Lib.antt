@@ -1,2 +1,3 @@
 -- What the customer demands, over histories of calls on one table.
 pub mod History
+pub mod Script

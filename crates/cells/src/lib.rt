@@ -7,6 +7,7 @@ ghost use Rattle.cutting.specs.Piece.{Inside};
 ghost use Rattle.cells.specs.Cells.{Holds, cellOf, place as placeOf};
 ghost use Rattle.cells.specs.Box.{anyInRow, anyInBox, isEmpty, tooMuch, exceeds, sought};
 ghost use Rattle.cells.specs.Emptied.{emptiedWhere, emptied, rowFrom};
+use job::Piece;
 
 // A cell that has not been worked out.
 pub const EMPTY: u32 = 4_294_967_295;
@@ -65,9 +66,6 @@ fn empty_row(t: &mut [u32], a: usize, p: usize, y: usize)
         x += 1;
     }
 }
-
-// The largest value of a piece: what a unit of area earns at most.
-const VALUE_MAX: usize = 65_535;
 
 // Is a cell of the box x by y empty?
 pub fn has_empty(t: &[u32], a: usize, x: usize, y: usize) -> bool
@@ -140,5 +138,5 @@ fn too_much(value: u32, u: usize, w: usize) -> bool
     if value == EMPTY {
         return false;
     }
-    u * w * VALUE_MAX < value as usize
+    u * w * (Piece::VALUE_MAX as usize) < value as usize
 }

@@ -17,6 +17,15 @@ use Rattle.tracer.specs.Chosen.{Least, None, Exact, Fitting, Adds, Chose
 use Rattle.tracer.specs.declared.Sides.{Sides}
 use Rattle.tracer.specs.declared.Choice.{Choice}
 
+-- A rule strikes, or the next ones decide.
+pub strikes : (b : Bool) (choice after : Choice) → b ≡ true → choice ≡ orElse b choice after
+unfolding orElse
+strikes b choice after h = ap (λ (d : Bool). orElse d choice after) (sym h)
+
+pub passes : {r : Choice} (b : Bool) (choice after : Choice) → b ≡ false → r ≡ after → r ≡ orElse b choice after
+unfolding orElse
+passes b choice after h e = e ∙ ap (λ (d : Bool). orElse d choice after) (sym h)
+
 -- The test b says whether k is the least of a set, or nothing is in the set.
 record Decides (S : ℕ → Type 0) (k : ℕ) (b : Bool) : Type 0 where
   pub struck : b ≡ true → Least S k
@@ -29,6 +38,21 @@ decides f n S says below =
       struck = λ e. let h = says-lt (firstBelow f n) n .means e in record { holds = says (firstBelow f n) h .means (first-passes f n h); least = λ j l m. says-false (says j (below j m)) (first-before f n j l) m };
       passed = λ e k m. says-false (says k (below k m)) (first-before f n k (omega (arith, below k m, says-false (says-lt (firstBelow f n) n) e, first-within f n))) m;
     }
+
+-- There is only one least, and where there is one the test is true.
+least-unique : {S : ℕ → Type 0} {j k : ℕ} → Least S j → Least S k → j ≡ k
+least-unique {j = j} {k = k} l m =
+    let late : j < k → ⊥ = λ h. m .least j h (l .holds) in
+    let early : k < j → ⊥ = λ h. l .least k h (m .holds) in
+    omega arith
+
+finds : {S : ℕ → Type 0} {j k : ℕ} (b : Bool) → Decides S k b → Least S j → (b ≡ true) × (j ≡ k)
+finds true d l = (refl, least-unique l (d .struck refl))
+finds false d l = absurd (d .passed refl _ (l .holds))
+
+misses : {S : ℕ → Type 0} {k : ℕ} (b : Bool) → Decides S k b → None S → b ≡ false
+misses true d n = absurd (n _ (d .struck refl .holds))
+misses false d n = refl
 
 module _ (rows : Rows) (cell : ℕ → ℕ → ℕ) (s : Sides) where
   exact-says : (k : ℕ) → k < rows .count → Says (suits true (rows .width k) (rows .height k) (rows .value k) (numberOf cell s) s) (Exact rows cell s k)
@@ -93,6 +117,33 @@ module _ (rows : Rows) (cell : ℕ → ℕ → ℕ) (s : Sides) where
   unfolding choose chooseFor firstPiece sideOf
   chosen =
       in-order _ _ _ _ _ (says-eq (numberOf cell s) 0)
+      (decides _ (rows .count) (Exact rows cell s) exact-says (λ k m. m .among))
+      (line-decides false (rows .inP))
+      (line-decides true (rows .inQ))
+      (decides _ (rows .count) (Fitting rows cell s) fitting-says (λ k m. m .among))
+
+  -- And no other choice is.
+  only-in-order : {exact c d fitting : ℕ} (b₁ b₂ b₃ b₄ b₅ : Bool) → Says b₁ (numberOf cell s ≡ 0) → Decides (Exact rows cell s) exact b₂ → Decides (Adds rows cell s false (rows .inP)) c b₃ → Decides (Adds rows cell s true (rows .inQ)) d b₄ → Decides (Fitting rows cell s) fitting b₅ → {choice : Choice} → Chosen rows cell s choice → choice ≡ orElse b₁ Choice.Scrap (orElse b₂ (Choice.Piece exact) (orElse b₃ (Choice.Line (across c)) (orElse b₄ (Choice.Line (up d)) (orElse b₅ (Choice.Trim fitting) Choice.Nothing))))
+  only-in-order b₁ b₂ b₃ b₄ b₅ z e p q f (Chosen.rule1 y) = strikes b₁ _ _ (z .found y)
+  only-in-order b₁ b₂ b₃ b₄ b₅ z e p q f (Chosen.rule2 y l) =
+      let t = finds b₂ e l in
+      passes b₁ _ _ (says-no z y) (ap Choice.Piece (t .1) ∙ strikes b₂ _ _ (t .0))
+  only-in-order b₁ b₂ b₃ b₄ b₅ z e p q f (Chosen.rule3 y n l) =
+      let t = finds b₃ p l in
+      passes b₁ _ _ (says-no z y) (passes b₂ _ _ (misses b₂ e n) (ap (λ (k : ℕ). Choice.Line (across k)) (t .1) ∙ strikes b₃ _ _ (t .0)))
+  only-in-order b₁ b₂ b₃ b₄ b₅ z e p q f (Chosen.rule4 y n m l) =
+      let t = finds b₄ q l in
+      passes b₁ _ _ (says-no z y) (passes b₂ _ _ (misses b₂ e n) (passes b₃ _ _ (misses b₃ p m) (ap (λ (k : ℕ). Choice.Line (up k)) (t .1) ∙ strikes b₄ _ _ (t .0))))
+  only-in-order b₁ b₂ b₃ b₄ b₅ z e p q f (Chosen.rule5 y n m k l) =
+      let t = finds b₅ f l in
+      passes b₁ _ _ (says-no z y) (passes b₂ _ _ (misses b₂ e n) (passes b₃ _ _ (misses b₃ p m) (passes b₄ _ _ (misses b₄ q k) (ap Choice.Trim (t .1) ∙ strikes b₅ _ _ (t .0)))))
+  only-in-order b₁ b₂ b₃ b₄ b₅ z e p q f (Chosen.rule6 y n m k l) =
+      passes b₁ _ _ (says-no z y) (passes b₂ _ _ (misses b₂ e n) (passes b₃ _ _ (misses b₃ p m) (passes b₄ _ _ (misses b₄ q k) (passes b₅ _ _ (misses b₅ f l) refl))))
+
+  pub chosen-only : {choice : Choice} → Chosen rows cell s choice → choice ≡ choose rows cell s
+  unfolding choose chooseFor firstPiece sideOf
+  chosen-only =
+      only-in-order _ _ _ _ _ (says-eq (numberOf cell s) 0)
       (decides _ (rows .count) (Exact rows cell s) exact-says (λ k m. m .among))
       (line-decides false (rows .inP))
       (line-decides true (rows .inQ))

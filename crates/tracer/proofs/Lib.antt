@@ -7,3 +7,7 @@ pub mod Traced
 pub mod Steps
 pub mod Wrote
 pub mod Nodes
+pub mod Valid
+pub mod Best
+pub mod Rows
+pub mod Sheets

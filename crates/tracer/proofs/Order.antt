@@ -9,15 +9,7 @@ use Rattle.points.specs.Rows.{Rows}
 use Rattle.tracer.specs.Choice.{across, up, numberOf, firstPiece, leastLine, orElse, chooseFor, choose}
 use Rattle.tracer.specs.declared.Sides.{Sides}
 use Rattle.tracer.specs.declared.Choice.{Choice}
-
--- A rule strikes, or the next ones decide.
-strikes : (b : Bool) (choice after : Choice) → b ≡ true → choice ≡ orElse b choice after
-unfolding orElse
-strikes b choice after h = ap (λ (d : Bool). orElse d choice after) (sym h)
-
-passes : {r : Choice} (b : Bool) (choice after : Choice) → b ≡ false → r ≡ after → r ≡ orElse b choice after
-unfolding orElse
-passes b choice after h e = e ∙ ap (λ (d : Bool). orElse d choice after) (sym h)
+use Rattle.tracer.proofs.Chosen.{strikes, passes}
 
 -- The code's number is that of the cell, and its searches are these.
 module _ (rows : Rows) (cell : ℕ → ℕ → ℕ) (s : Sides) {number : ℕ} (is : number ≡ numberOf cell s) where

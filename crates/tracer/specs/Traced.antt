@@ -7,8 +7,9 @@ use lib.Dec.{ltb}
 use lib.ListN.{length}
 use Rattle.laws.specs.Put.{put}
 use Rattle.cutting.specs.Limits.{sideMax, piecesMax}
-use Rattle.cutting.specs.Piece.{Piece, Numbered, Inside}
-use Rattle.cutting.specs.Tree.{Tree}
+use Rattle.cutting.specs.Piece.{Piece, Numbered, Lays, Inside}
+use Rattle.cutting.specs.Points.{P, Q}
+use Rattle.cutting.specs.Tree.{Tree, Valid, earning}
 use Rattle.cells.specs.Cells.{Holds}
 use Rattle.points.specs.Rows.{Rows}
 use Rattle.nodes.specs.Encoding.{letterV, letterH, nodeLength, encode}
@@ -123,3 +124,13 @@ pub record Wrote (o : List ℕ) (at : ℕ) (e : List ℕ) (next : ℕ) (p : List
 pub record HoldsPieces (rows : Rows) (pieces : List Piece) : Type 0 where
   pub count : rows .count ≡ length pieces
   pub piece : (k : ℕ) → suc k ≤ rows .count → Numbered pieces (k + 1) (rows .width k) (rows .height k) (rows .value k)
+
+-- The points of P and Q, on a sheet a by b, are marked.
+pub record MarksPoints (rows : Rows) (pieces : List Piece) (a b : ℕ) : Type 0 where
+  pub inP : (c : ℕ) → P (Lays pieces) a c → rows .inP c ≡ true
+  pub inQ : (d : ℕ) → Q (Lays pieces) b d → rows .inQ d ≡ true
+
+-- The tree dissects the rectangle and earns this number.
+pub record Dissects (pieces : List Piece) (t : Tree) (s : Sides) (number : ℕ) : Type 0 where
+  pub valid : Valid pieces t (s .width) (s .height)
+  pub earns : earning pieces t ≡ number

@@ -1,0 +1,88 @@
+-- On a table of best values rule 6 strikes nowhere, and the tree earns the best value.
+use Prim.Native.Nat.{ℕ, suc, _+_, _-_, _/_, _≤_, _<_}
+use mathlib.Core.Bool.{Bool, true, false, _&&_}
+use mathlib.Core.Path.{_≡_, refl, sym, ap, ap₂, _∙_, subst}
+use mathlib.Core.List.{List}
+use native.Mathlib.Omega.{arith}
+use lib.ListN.{length}
+use Rattle.cutting.specs.Piece.{Piece, pieceAt, Numbered, Lays, InRange, Fits, Inside, Turned}
+use Rattle.cutting.specs.Dissection.{rest, Line, Best}
+use Rattle.cutting.specs.Points.{P, Q}
+use Rattle.cutting.specs.Candidate.{Candidate, Smaller}
+use Rattle.cutting.proofs.Rule.{best-is-worth}
+use Rattle.points.specs.Rows.{Rows}
+use Rattle.tracer.specs.Choice.{by, sideOf, near, far, numberOf, choose}
+use Rattle.tracer.specs.Chosen.{Fitting, Adds}
+use Rattle.tracer.specs.Traced.{tracesBy, traced, traces, HoldsPieces, MarksPoints, Dissects}
+use Rattle.tracer.specs.declared.Sides.{Sides}
+use Rattle.tracer.specs.declared.Choice.{Choice}
+use Rattle.tracer.proofs.Chosen.{Fact, fact, Unstruck}
+use Rattle.tracer.proofs.Depth.{Real, Part, near-part, far-part, by-parts}
+use Rattle.tracer.proofs.Traced.{within-of, traces-own}
+use Rattle.tracer.proofs.Valid.{traced-valid}
+
+module _ (pieces : List Piece) (rows : Rows) (cell : ℕ → ℕ → ℕ) (a b : ℕ) (holds : HoldsPieces rows pieces) (marks : MarksPoints rows pieces a b) where
+  -- A piece that may lie is among the rows, and fits by its rule.
+  fitting-of : (s : Sides) {p q v : ℕ} → Lays pieces p q v → Fits p q (s .width) (s .height) → numberOf cell s ≡ v → (k : ℕ) × Fitting rows cell s k
+  fitting-of s {p} {q} {v} l f e =
+      (k, record { among = below; fits = record { wide = omega (arith, width, f .wide); high = omega (arith, height, f .high) }; value = value ∙ sym e })
+    where
+      k : ℕ
+      k = l .number - 1
+
+      below : k < rows .count
+      below = omega (arith, l .numbered .first, l .numbered .last, holds .count)
+
+      same : k + 1 ≡ l .number
+      same = omega (arith, l .numbered .first)
+
+      width : rows .width k ≡ p
+      width = sym (holds .piece k below .width) ∙ (ap (λ (i : ℕ). pieceAt pieces i .width) same ∙ l .numbered .width)
+
+      height : rows .height k ≡ q
+      height = sym (holds .piece k below .height) ∙ (ap (λ (i : ℕ). pieceAt pieces i .height) same ∙ l .numbered .height)
+
+      value : rows .value k ≡ v
+      value = sym (holds .piece k below .value) ∙ (ap (λ (i : ℕ). pieceAt pieces i .value) same ∙ l .numbered .value)
+
+  -- Where the number in the cell is a candidate, some rule strikes.
+  struck : (s : Sides) {v : ℕ} → Candidate (Lays pieces) a b cell (s .width) (s .height) v → numberOf cell s ≡ v → Unstruck rows cell s → ⊥
+  unfolding sideOf near far
+  struck s Candidate.nothing e u = u .zero e
+  struck s (Candidate.fitting l f) e u = let t = fitting-of s l f e in u .fitting (t .0) (t .1)
+  struck s (Candidate.vertical {c = c} {r = r} p h l) e u =
+      u .across c (record { least = l .least; most = h; point = marks .inP c p; sum = ap (λ (k : ℕ). cell c (s .height) + cell k (s .height)) (sym (l .leaves)) ∙ sym e })
+  struck s (Candidate.horizontal {d = d} {r = r} p h l) e u =
+      u .up d (record { least = l .least; most = h; point = marks .inQ d p; sum = ap (λ (k : ℕ). cell (s .width) d + cell (s .width) k) (sym (l .leaves)) ∙ sym e })
+
+  -- Where it is so in every cell of a box, rule 6 strikes nowhere in it.
+  module _ (x y : ℕ) (candidate : (u w : ℕ) → Inside u w x y → Candidate (Lays pieces) a b cell u w (cell u w)) where
+    abbrev InBox : Sides → Type 0
+    InBox s = Inside (s .width) (s .height) x y
+
+    goes-on : (s : Sides) → Real s → InBox s → ((u : Sides) → Part u s → InBox u → traces rows cell u ≡ true) → (choice : Choice) → Fact rows cell s choice → tracesBy (traces rows cell) s choice ≡ true
+    unfolding tracesBy Fact
+    goes-on s r i below Choice.Scrap f = refl
+    goes-on s r i below (Choice.Piece k) f = refl
+    goes-on s r i below (Choice.Line cut) f =
+        let n = near-part (cut .tall) s r (within-of (f .1)) in
+        let m = far-part (cut .tall) s r (within-of (f .1)) in
+        ap₂ _&&_ (below _ n (omega (arith, n .inside, i))) (below _ m (omega (arith, m .inside, i)))
+    goes-on s r i below (Choice.Trim k) f = refl
+    goes-on s r i below Choice.Nothing f = absurd (struck s (candidate (s .width) (s .height) i) refl f)
+
+    pub traces-always : (s : Sides) → InBox s → traces rows cell s ≡ true
+    traces-always s i =
+        by-parts (λ u. InBox u → traces rows cell u ≡ true)
+        (λ u r below j. traces-own rows cell u r refl ∙ goes-on u r j below (choose rows cell u) (fact rows cell u refl))
+        s (record { wide = i .widthLeast; high = i .heightLeast }) i
+
+-- "On a table kept so, refusal 7 never arises": where every cell of the box holds its best value, each is traced, by a valid tree that earns it.
+pub traced-best : (pieces : List Piece) (rows : Rows) (cell : ℕ → ℕ → ℕ) (a b x y : ℕ) → HoldsPieces rows pieces → MarksPoints rows pieces a b → InRange (Lays pieces) → x ≤ a → y ≤ b → ((u w : ℕ) → Inside u w x y → Best (Lays pieces) u w (cell u w)) → (s : Sides) → Inside (s .width) (s .height) x y → (traces rows cell s ≡ true) × Dissects pieces (traced rows cell s) s (numberOf cell s)
+traced-best pieces rows cell a b x y holds marks range g h best s i =
+    let always = traces-always pieces rows cell a b holds marks x y candidate s i in
+    (always, traced-valid pieces rows cell holds range s (record { wide = i .widthLeast; high = i .heightLeast }) always)
+  where
+    candidate : (u w : ℕ) → Inside u w x y → Candidate (Lays pieces) a b cell u w (cell u w)
+    candidate u w j =
+        best-is-worth (Lays pieces) range a b cell u w (cell u w) (omega arith) (λ m n k. best m n (omega (arith, k .inside))) (best u w j) .attained

@@ -7,7 +7,7 @@ use mathlib.Core.List.{List, [], _++_, append-nil}
 use native.Mathlib.Omega.{arith}
 use lib.ListN.{length, take, drop, length-append, length-take, drop-of-length-le}
 use lib.Seq.{take-add, length-take-le}
-use Rattle.cutting.specs.Limits.{sideMax, valueMax}
+use Rattle.cutting.specs.Limits.{sideMax}
 use Rattle.cutting.specs.Piece.{Piece}
 use Rattle.cutting.specs.Tree.{Tree, Valid, earning, pieceArea, scrapArea}
 use Rattle.cutting.proofs.Tree.{dissection-of, areas}
@@ -19,8 +19,8 @@ use Rattle.fields.proofs.Sum.{sum-below}
 use Rattle.job.specs.declared.Job.{Job}
 use Rattle.job.specs.declared.Blocked.{Blocked}
 use Rattle.job.specs.Job.{piecesOf, jobOf}
-use Rattle.job.specs.Range.{JobInRange, jobInRange}
-use Rattle.job.specs.Block.{fromBlock, blockOf, blockLength}
+use Rattle.job.specs.Range.{JobInRange}
+use Rattle.job.specs.Block.{fromBlock, blockOf}
 use Rattle.job.proofs.Pieces.{pieces-length, pieces-jobOf}
 use Rattle.job.proofs.Range.{job-says, jobOf-in-range}
 use Rattle.job.proofs.Blocks.{shape-says, block-length, from-block-of-block, block-written, range-fits}

@@ -1,6 +1,6 @@
 -- Each number is given exactly when the list says, and a file is accepted exactly when no number is.
 use Prim.Native.Nat.{ℕ, _+_, _-_, _≤_, _<_}
-use mathlib.Core.Bool.{Bool, true, false, _&&_}
+use mathlib.Core.Bool.{true, _&&_}
 use mathlib.Core.Path.{_≡_, refl, sym, ap, ap₂, subst, _∙_}
 use mathlib.Core.Logic.{_⊎_, inl, inr, _↔_}
 use mathlib.Core.List.{List}
@@ -8,17 +8,15 @@ use native.Mathlib.Omega.{arith}
 use lib.ListN.{length, getD, take, drop, length-take, length-drop, List·getD-eq-default}
 use lib.Seq.{getD-take, getD-drop}
 use Rattle.laws.specs.Says.{Says}
-use Rattle.laws.proofs.Says.{says-no, says-eq, says-and}
+use Rattle.laws.proofs.Says.{says-no, says-eq}
 use Rattle.laws.proofs.Choice.{either-way}
 use Rattle.laws.proofs.ByIndex.{byIndex-length}
 use Rattle.laws.proofs.Order.{le-or-lt}
-use Rattle.cutting.specs.Limits.{sideMax, piecesMax}
 use Rattle.fields.specs.Number.{number2Of, Bytes}
 use Rattle.job.specs.declared.Job.{Job}
-use Rattle.job.specs.declared.Blocked.{Blocked}
 use Rattle.job.specs.Job.{piecesOf, jobOf}
-use Rattle.job.specs.Range.{JobInRange, jobInRange}
-use Rattle.job.specs.Block.{fromBlock, jobIn, pieceIn, countIn, blockLength, blockShape, BlockShape}
+use Rattle.job.specs.Range.{JobInRange}
+use Rattle.job.specs.Block.{fromBlock, jobIn, pieceIn, countIn, blockShape}
 use Rattle.job.proofs.Pieces.{pieces-length}
 use Rattle.job.proofs.Range.{job-says}
 use Rattle.job.proofs.Blocks.{shape-says}
@@ -32,7 +30,7 @@ use Rattle.checker.specs.Fields.{trailerAt, blockDistance, nodesDistance
 use Rattle.checker.specs.Checked.{Framed, framed, sumAgrees, agreed, whole, nodesRead, judged, judgedJob, checked}
 use Rattle.checker.specs.Given.{SumTrue, JobFits, NodesObey, Given}
 use Rattle.checker.specs.declared.Checked.{Checked}
-use Rattle.checker.proofs.Stages.{framed-says, sum-says, Agreed, agreed-tells, from-ok, from-job, judged-broken, judged-left, judged-value, judged-yes, refuses-9, refuses-10, refuses-11, judges}
+use Rattle.checker.proofs.Stages.{framed-says, sum-says, agreed-tells, from-ok, from-job, judged-broken, judged-left, judged-value, judged-yes, refuses-9, refuses-10, refuses-11, judges}
 
 pub bytes-take : (n : ℕ) (s : List ℕ) → Bytes s → Bytes (take n s)
 bytes-take n s b k = go (le-or-lt n k)

@@ -1,14 +1,13 @@
 -- Where the parts of a plan file lie: a file put together has its fields, and a file that is framed is put together of its parts.
 use Prim.Native.Nat.{ℕ, _+_, _-_, _≤_, _<_}
 use mathlib.Core.Path.{_≡_, refl, sym, ap, ap₂, _∙_}
-use mathlib.Core.List.{List, [], _∷_, _++_, append-assoc, append-nil}
+use mathlib.Core.List.{List, [], _++_, append-assoc, append-nil}
 use native.Mathlib.Omega.{arith}
-use lib.ListN.{length, take, drop, length-append, length-take, length-drop, take-append-drop}
-use lib.Seq.{take-at, drop-at, drop-drop, take-add, take-all, drop-length, length-take-le}
+use lib.ListN.{length, take, drop, length-append, take-append-drop}
+use lib.Seq.{take-at, drop-at, drop-drop, drop-length}
 use Rattle.fields.specs.Number.{number4Of, bytes4, Bytes}
 use Rattle.fields.proofs.Number.{bytes4-length, number4-behind, bytes4-number}
 use Rattle.nodes.specs.Reads.{Found}
-use Rattle.checker.specs.Refusals.{trailerLength}
 use Rattle.checker.specs.Fields.{trailerAt, blockDistance, nodesDistance, statedValue, statedSum, noteLength, nodesAt, summedBytes, blockBytes, beforeTrailer}
 use Rattle.checker.specs.Checked.{Framed}
 

@@ -1,15 +1,15 @@
 -- Each stage of the check: what its test says, and the answer where it refuses and where it passes.
-use Prim.Native.Nat.{ℕ, _+_, _-_, _*_, _≤_, _<_}
-use mathlib.Core.Bool.{Bool, true, false, cond, not, _&&_}
+use Prim.Native.Nat.{ℕ, _+_, _-_, _≤_}
+use mathlib.Core.Bool.{Bool, true, false, cond, not}
 use mathlib.Core.Path.{_≡_, refl, sym, ap, ap₂, subst, _∙_}
 use mathlib.Core.List.{List}
 use native.Mathlib.Omega.{arith}
 use native.Mathlib.Nat.{mul-le-mul}
 use lib.Dec.{leb, eqb}
-use lib.ListN.{length, getD, take, drop, length-take, length-drop}
+use lib.ListN.{length, getD, take, drop, length-take}
 use Rattle.laws.specs.Says.{Says}
 use Rattle.laws.proofs.Says.{says-no, says-and, says-le, says-eq, says-iff}
-use Rattle.laws.proofs.Tests.{not-true, not-false, and-no, and-yes, le-yes}
+use Rattle.laws.proofs.Tests.{and-no, and-yes, le-yes}
 use Rattle.laws.proofs.ByIndex.{is-byIndex}
 use Rattle.cutting.specs.Limits.{sideMax, piecesMax}
 use Rattle.cutting.specs.Piece.{Piece, noPiece}
@@ -28,11 +28,10 @@ use Rattle.job.proofs.Range.{job-says}
 use Rattle.job.proofs.Blocks.{shape-says}
 use Rattle.nodes.specs.declared.Part.{Part}
 use Rattle.nodes.specs.declared.Tally.{Tally}
-use Rattle.nodes.specs.declared.Sides.{Sides}
 use Rattle.nodes.specs.Rows.{rows}
 use Rattle.nodes.specs.Reader.{partAt, Ready}
-use Rattle.checker.specs.Refusals.{notFramed, sumDiffers, jobOutOfRange, nodesBroken, valueDiffers, trailerLength, fileLeast, fileMost, distanceLeast}
-use Rattle.checker.specs.Fields.{trailerAt, blockDistance, nodesDistance, statedValue, statedSum, noteLength, nodesAt, summedBytes, blockBytes, beforeTrailer}
+use Rattle.checker.specs.Refusals.{notFramed, sumDiffers, jobOutOfRange, nodesBroken, valueDiffers, fileLeast, fileMost, distanceLeast}
+use Rattle.checker.specs.Fields.{trailerAt, blockDistance, nodesDistance, statedValue, statedSum, noteLength, nodesAt, summedBytes, blockBytes}
 use Rattle.checker.specs.Checked.{Framed, framed, sumAgrees, agreed, whole, nodesRead, judged, judgedJob, checked}
 use Rattle.checker.specs.declared.Checked.{Checked}
 

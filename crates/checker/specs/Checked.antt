@@ -1,6 +1,7 @@
 -- The check: refusals 9 to 13 in the order of their numbers, and the answer.
-use Prim.Native.Nat.{ℕ, _+_, _-_, _≤_}
+use Prim.Native.Nat.{ℕ, _≤_}
 use mathlib.Core.Bool.{Bool, cond, _&&_}
+use mathlib.Core.Path.{_≡_}
 use mathlib.Core.List.{List}
 use lib.Dec.{leb, eqb}
 use lib.ListN.{length}
@@ -14,7 +15,7 @@ use Rattle.nodes.specs.declared.Frame.{Frame}
 use Rattle.nodes.specs.declared.Part.{Part}
 use Rattle.nodes.specs.Reader.{partAt}
 use Rattle.checker.specs.Refusals.{notFramed, sumDiffers, jobOutOfRange, nodesBroken, valueDiffers, fileLeast, fileMost, distanceLeast}
-use Rattle.checker.specs.Fields.{trailerAt, blockDistance, nodesDistance, statedValue, statedSum, noteLength, nodesAt, summedBytes, blockBytes, beforeTrailer}
+use Rattle.checker.specs.Fields.{trailerAt, blockDistance, statedValue, statedSum, noteLength, nodesAt, summedBytes, blockBytes, beforeTrailer}
 use Rattle.checker.specs.declared.Checked.{Checked}
 
 -- The paper's number and values for each case of the answer. "An accepted call has number 0. A refusal returns its number with
@@ -70,3 +71,7 @@ judgedJob file blocked = cond (agreed blocked) (judged file (nodesRead file (blo
 unfoldable pub checked : List ℕ → Checked
 checked file =
     cond (framed file) (cond (sumAgrees file) (judgedJob file (fromBlock (blockBytes file))) (Checked.Refused sumDiffers)) (Checked.Refused notFramed)
+
+-- The promise of check, for all input: r is its answer. It has no premise.
+abbrev pub CheckPromise : List ℕ → Checked → Type 0
+CheckPromise file r = r ≡ checked file

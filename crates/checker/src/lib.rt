@@ -15,7 +15,7 @@ ghost use lib.ListN.{length};
 ghost use Rattle.job.specs.Range.{JobInRange};
 ghost use Rattle.job.specs.Block.{fromBlock};
 ghost use Rattle.checker.specs.Refusals.{trailerLength, fileMost};
-ghost use Rattle.checker.specs.Fields.{trailerAt, blockDistance, nodesDistance, statedValue, noteLength, nodesAt, blockBytes};
+ghost use Rattle.checker.specs.Fields.{trailerAt, blockDistance, nodesDistance, statedValue, noteLength, blockBytes};
 ghost use Rattle.checker.specs.Checked.{Framed, framed, sumAgrees, agreed, nodesRead, judged, checked};
 
 // The answer: a file's value, the length of its note, the area of its pieces and that of its scrap; or the number of a refusal.

@@ -4,7 +4,7 @@ use mathlib.Core.Path.{_≡_, refl, sym, ap, ap₂, subst, _∙_}
 use mathlib.Core.Logic.{_↔_}
 use mathlib.Core.List.{List, _++_, append-nil}
 use native.Mathlib.Omega.{arith}
-use lib.ListN.{length, getD, drop}
+use lib.ListN.{length, getD}
 use lib.Seq.{drop-length}
 use Rattle.cutting.specs.Piece.{Piece, pieceAt, Numbered}
 use Rattle.cutting.specs.Dissection.{rest, Line}
@@ -12,17 +12,16 @@ use Rattle.cutting.specs.Tree.{Tree, Valid, earning, pieceArea, scrapArea}
 use Rattle.cutting.proofs.Tree.{areas}
 use Rattle.fields.specs.Number.{number2Of, Bytes}
 use Rattle.nodes.specs.Encoding.{letterV, letterH, letterP, letterS, nodeLength, node, encode, Written}
-use Rattle.nodes.specs.Reader.{area, added, pieceTally, scrapTally, acrossWidth, acrossHeight, partBy, partWithin, nodeAt, partAt, nearPart, farPart}
+use Rattle.nodes.specs.Reader.{area, added, pieceTally, scrapTally, acrossWidth, acrossHeight, partBy, partWithin, nodeAt, partAt}
 use Rattle.nodes.specs.Reads.{Found, tallyOf, ReadAs}
 use Rattle.nodes.specs.declared.Sides.{Sides}
 use Rattle.nodes.specs.declared.Frame.{Frame}
-use Rattle.nodes.specs.declared.Split.{Split}
 use Rattle.nodes.specs.declared.Tally.{Tally}
 use Rattle.nodes.specs.declared.Node.{Node}
 use Rattle.nodes.specs.declared.Part.{Part}
 use Rattle.nodes.proofs.Rules.{Obeys, Judged, judged, letter-obeys, node-whole}
-use Rattle.nodes.proofs.Own.{BothRead, line-read, never-read, place-same, tally-same, part-leaf, part-line, line-both}
-use Rattle.nodes.proofs.Encoding.{found-both, found-first, found-second, node-found, node-length, NodeStands, node-stands, valid-written, same-encoding}
+use Rattle.nodes.proofs.Own.{line-read, never-read, place-same, tally-same, part-leaf, part-line, line-both}
+use Rattle.nodes.proofs.Encoding.{found-both, found-first, found-second, node-found, node-length, node-stands, valid-written, same-encoding}
 
 -- A node of a row of bytes, by the letter that it has.
 lettered : (s : List ℕ) (at L : ℕ) → Bytes s → at + nodeLength ≤ length s → getD s at 0 ≡ L → Found s at (node L (number2Of s (at + 1))) (at + nodeLength)

@@ -1,15 +1,15 @@
 -- One node: each letter's rule, what it makes of a part, and that nothing else is accepted.
 use Prim.Native.Nat.{ℕ, _+_, _-_, _≤_, _<_}
-use mathlib.Core.Bool.{Bool, true, false, cond, _&&_}
+use mathlib.Core.Bool.{true, false}
 use mathlib.Core.Path.{_≡_, refl, sym, ap, ap₂, subst, _∙_}
 use mathlib.Core.Logic.{_⊎_, inl, inr}
 use mathlib.Core.List.{List}
 use native.Mathlib.Omega.{arith}
 use lib.ListN.{length, getD}
-use lib.Dec.{leb, ltb, eqb}
+use lib.Dec.{ltb}
 use Rattle.laws.specs.Says.{Says}
 use Rattle.laws.proofs.Choice.{chosen, not-chosen, either-way}
-use Rattle.laws.proofs.Says.{says-no, says-false, says-iff, says-and, says-le, says-lt, says-eq, says-same}
+use Rattle.laws.proofs.Says.{says-iff, says-and, says-le, says-lt, says-eq, says-same}
 use Rattle.laws.proofs.ByIndex.{byIndex-at, byIndex-length}
 use Rattle.cutting.specs.Piece.{Piece, noPiece, pieceAt, Numbered}
 use Rattle.cutting.specs.Dissection.{rest, Line}

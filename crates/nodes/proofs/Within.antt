@@ -1,13 +1,13 @@
 -- What the leaves of a part add up to stays within its area: no sum wraps.
-use Prim.Native.Nat.{ℕ, zero, suc, _+_, _-_, _*_, _^_, _≤_, _<_}
-use mathlib.Core.Path.{_≡_, refl, sym, ap, subst, _∙_}
+use Prim.Native.Nat.{ℕ, zero, suc, _+_, _*_, _≤_, _<_}
+use mathlib.Core.Path.{_≡_, sym, ap, subst, _∙_}
 use mathlib.Core.List.{List}
 use native.Mathlib.Omega.{arith}
 use native.Mathlib.Nat.{add-mul, mul-add, mul-le-mul}
-use Rattle.cutting.specs.Limits.{sideMax, valueMax}
-use Rattle.cutting.specs.Piece.{Piece, pieceAt, Numbered, Lays, InRange}
+use Rattle.cutting.specs.Limits.{valueMax}
+use Rattle.cutting.specs.Piece.{Piece, Numbered, Lays, InRange}
 use Rattle.cutting.specs.Dissection.{Line}
-use Rattle.nodes.specs.Reader.{area, added, pieceTally, scrapTally, nearPart, farPart, partBy, partWithin, nodeAt, partAt, Ready, ReadyLine, AddUp}
+use Rattle.nodes.specs.Reader.{area, added, pieceTally, nearPart, farPart, partBy, partWithin, nodeAt, partAt, Ready, ReadyLine, AddUp}
 use Rattle.nodes.specs.declared.Sides.{Sides}
 use Rattle.nodes.specs.declared.Frame.{Frame}
 use Rattle.nodes.specs.declared.Split.{Split}

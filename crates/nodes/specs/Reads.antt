@@ -1,8 +1,8 @@
 -- When a part is read as a tree: the bytes are the tree's encoding, and the tree obeys the rules.
-use Prim.Native.Nat.{ℕ, _+_, _*_, _<_}
+use Prim.Native.Nat.{ℕ, _+_}
 use mathlib.Core.Path.{_≡_}
 use mathlib.Core.List.{List, _++_}
-use lib.ListN.{length, getD, drop}
+use lib.ListN.{length, drop}
 use Rattle.cutting.specs.Piece.{Piece}
 use Rattle.cutting.specs.Tree.{Tree, Valid, earning, pieceArea, scrapArea}
 use Rattle.nodes.specs.Encoding.{encode}

@@ -2,11 +2,9 @@
 use fields::number2;
 ghost use mathlib.Core.Path.{_≡_};
 ghost use Prim.Native.Nat.{_+_, _*_, _≤_};
-ghost use lib.ListN.{length};
-ghost use Rattle.cutting.specs.Limits.{piecesMax, sideMax};
+ghost use Rattle.cutting.specs.Limits.{piecesMax};
 ghost use Rattle.nodes.specs.Rows.{rows};
-ghost use Rattle.nodes.specs.Encoding.{nodeLength};
-ghost use Rattle.nodes.specs.Reader.{Small, Ready, ReadyLine, AddUp, area, added, isInside, isPiece, scrapNode, pieceNode, verticalNode, horizontalNode, letterNode, nodeAt, partAt, lineAt, farPart};
+ghost use Rattle.nodes.specs.Reader.{Small, Ready, ReadyLine, AddUp, area, added, isInside, scrapNode, pieceNode, verticalNode, horizontalNode, letterNode, nodeAt, partAt, lineAt};
 
 pub struct Sides {
     pub width: u32,
@@ -264,34 +262,22 @@ fn read_line(
     ensures { λ r. ⌜ r ≡ lineAt (rows (now (widths .entry)) (now (heights .entry)) (now (values .entry)) count) (now (nodes .entry)) split ⌝ }
 {
     let near = split.near;
-    let first = read_part(
-        widths,
-        heights,
-        values,
-        count,
-        nodes,
-        Frame {
-            at: split.at,
-            sides: near,
-        },
-    );
+    let near_part = Frame {
+        at: split.at,
+        sides: near,
+    };
+    let first = read_part(widths, heights, values, count, nodes, near_part);
     let Part::Read(middle, a) = first else {
-        return Part::Broken;
+        return first;
     };
     let far = split.far;
-    let second = read_part(
-        widths,
-        heights,
-        values,
-        count,
-        nodes,
-        Frame {
-            at: middle,
-            sides: far,
-        },
-    );
+    let far_part = Frame {
+        at: middle,
+        sides: far,
+    };
+    let second = read_part(widths, heights, values, count, nodes, far_part);
     let Part::Read(next, b) = second else {
-        return Part::Broken;
+        return second;
     };
     Part::Read(next, added(a, b))
 }

@@ -6,14 +6,6 @@ use Rattle.checker.proofs.Stages.{framed-says, agreed-tells, refuses-9,
 use borrow.Author.Needs.{needs}
 use Rattle.checker.proofs.check.Statement.{statement}
 use Rattle.checker.proofs.check.Tie as tie
-use Rattle.checker.proofs.check.Reads as reads
-use Rattle.checker.proofs.check.Lts as lts
-use Rattle.checker.proofs.is_framed.Reads as is-framed-reads
-use Rattle.checker.proofs.job_agrees.Reads as job-agrees-reads
-use Rattle.checker.proofs.job_block.Reads as job-block-reads
-use Rattle.checker.proofs.judge.Reads as judge-reads
-use Rattle.checker.proofs.read_nodes.Reads as read-nodes-reads
-use Rattle.checker.proofs.sum_agrees.Reads as sum-agrees-reads
 
 is-framed-requires : tie.Need-is-framed-requires
 is-framed-requires c κs = search needs

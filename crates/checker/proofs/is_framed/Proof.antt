@@ -4,10 +4,6 @@ use Rattle.checker.proofs.Stages.{not-framed, framed-last}
 use borrow.Author.Needs.{needs}
 use Rattle.checker.proofs.is_framed.Statement.{statement}
 use Rattle.checker.proofs.is_framed.Tie as tie
-use Rattle.checker.proofs.is_framed.Reads as reads
-use Rattle.checker.proofs.is_framed.Lts as lts
-use Rattle.checker.proofs.block_distance.Reads as block-distance-reads
-use Rattle.checker.proofs.trailer_at.Reads as trailer-at-reads
 
 returns : tie.Need-returns
 returns c = not-framed _ (λ f. omega arith)

@@ -3,9 +3,6 @@ use Rattle.checker.proofs.Stages.{agreed-no, agreed-last}
 use borrow.Author.Needs.{needs}
 use Rattle.checker.proofs.job_agrees.Statement.{statement}
 use Rattle.checker.proofs.job_agrees.Tie as tie
-use Rattle.checker.proofs.job_agrees.Reads as reads
-use Rattle.checker.proofs.job_agrees.Lts as lts
-use Rattle.job.proofs.Job.in_range.Reads as in-range-reads
 
 returns : tie.Need-returns
 returns c = agreed-no _ (c .if1 .taken)

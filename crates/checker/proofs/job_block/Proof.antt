@@ -3,11 +3,6 @@ use Rattle.checker.proofs.Stages.{block-done}
 use borrow.Author.Needs.{needs}
 use Rattle.checker.proofs.job_block.Statement.{statement}
 use Rattle.checker.proofs.job_block.Tie as tie
-use Rattle.checker.proofs.job_block.Reads as reads
-use Rattle.checker.proofs.job_block.Lts as lts
-use Rattle.checker.proofs.block_end.Reads as block-end-reads
-use Rattle.checker.proofs.note_length.Reads as note-length-reads
-use Rattle.job.proofs.block.from_block.Reads as from-block-reads
 
 note-length-requires : tie.Need-note-length-requires
 note-length-requires c κs = search needs

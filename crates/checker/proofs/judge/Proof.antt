@@ -5,12 +5,6 @@ use Rattle.checker.proofs.Stages.{judged-broken, judged-left, judged-va
 use borrow.Author.Needs.{needs}
 use Rattle.checker.proofs.judge.Statement.{statement}
 use Rattle.checker.proofs.judge.Tie as tie
-use Rattle.checker.proofs.judge.Reads as reads
-use Rattle.checker.proofs.judge.Lts as lts
-use Rattle.checker.proofs.narrowed.Reads as narrowed-reads
-use Rattle.checker.proofs.note_length.Reads as note-length-reads
-use Rattle.checker.proofs.stated_value.Reads as stated-value-reads
-use Rattle.checker.proofs.trailer_at.Reads as trailer-at-reads
 
 enum-known-read : tie.Need-enum-known-read
 enum-known-read c = search needs

@@ -3,11 +3,6 @@ use Rattle.checker.proofs.Stages.{nodes-read}
 use borrow.Author.Needs.{needs}
 use Rattle.checker.proofs.nodes_distance.Statement.{statement}
 use Rattle.checker.proofs.nodes_distance.Tie as tie
-use Rattle.checker.proofs.nodes_distance.Reads as reads
-use Rattle.checker.proofs.nodes_distance.Lts as lts
-use Rattle.checker.proofs.trailer_at.Reads as trailer-at-reads
-use Rattle.checker.proofs.widened.Reads as widened-reads
-use Rattle.fields.proofs.number4.Reads as number4-reads
 
 trailer-at-requires : tie.Need-trailer-at-requires
 trailer-at-requires c κs = search needs

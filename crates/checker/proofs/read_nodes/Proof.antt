@@ -7,12 +7,6 @@ use Rattle.checker.proofs.Stages.{rows-of, ready, nodes-done}
 use borrow.Author.Needs.{needs}
 use Rattle.checker.proofs.read_nodes.Statement.{statement}
 use Rattle.checker.proofs.read_nodes.Tie as tie
-use Rattle.checker.proofs.read_nodes.Reads as reads
-use Rattle.checker.proofs.read_nodes.Lts as lts
-use Rattle.checker.proofs.nodes_distance.Reads as nodes-distance-reads
-use Rattle.checker.proofs.trailer_at.Reads as trailer-at-reads
-use Rattle.job.proofs.Job.row.Reads as row-reads
-use Rattle.nodes.proofs.read_part.Reads as read-part-reads
 
 trailer-at-requires : tie.Need-trailer-at-requires
 trailer-at-requires c κs = search needs

@@ -3,10 +3,6 @@ use Rattle.checker.proofs.Stages.{value-read}
 use borrow.Author.Needs.{needs}
 use Rattle.checker.proofs.stated_value.Statement.{statement}
 use Rattle.checker.proofs.stated_value.Tie as tie
-use Rattle.checker.proofs.stated_value.Reads as reads
-use Rattle.checker.proofs.stated_value.Lts as lts
-use Rattle.checker.proofs.trailer_at.Reads as trailer-at-reads
-use Rattle.fields.proofs.number4.Reads as number4-reads
 
 trailer-at-requires : tie.Need-trailer-at-requires
 trailer-at-requires c κs = search needs

@@ -4,11 +4,6 @@ use Rattle.checker.proofs.Stages.{sum-done}
 use borrow.Author.Needs.{needs}
 use Rattle.checker.proofs.sum_agrees.Statement.{statement}
 use Rattle.checker.proofs.sum_agrees.Tie as tie
-use Rattle.checker.proofs.sum_agrees.Reads as reads
-use Rattle.checker.proofs.sum_agrees.Lts as lts
-use Rattle.checker.proofs.note_length.Reads as note-length-reads
-use Rattle.fields.proofs.number4.Reads as number4-reads
-use Rattle.fields.proofs.sum_of.Reads as sum-of-reads
 
 note-length-requires : tie.Need-note-length-requires
 note-length-requires c κs = search needs

@@ -1,6 +1,7 @@
+-- The part reader and the line reader meet their contracts. The area falls at each line: a part's measure is twice its area and 1,
+-- a line's is twice the areas of its two parts together. Assumes nothing.
 use borrow.Author.Needs.{needs}
-use mathlib.Core.Path.{_≡_, refl, sym, ap, subst, _∙_}
-use native.Mathlib.Omega.{arith}
+use mathlib.Core.Path.{sym, _∙_}
 use Rattle.nodes.proofs.Rules.{rows-few}
 use Rattle.nodes.proofs.Own.{part-leaf, part-line, part-broken, line-near-broken, line-far-broken, line-both}
 use Rattle.nodes.proofs.Within.{near-less, far-less, line-ready, line-less, adds-up}
@@ -55,7 +56,7 @@ read-line-enum-told : (t : ℕ) → read-line-lts.Need-enum-told (read-line-call
 read-line-enum-told t c = search needs
 
 read-line-returns : (t : ℕ) → read-line-lts.Need-returns (read-line-calls t) (read-line-at t) read-line.Post
-read-line-returns t c = line-near-broken _ _ (c .before .before .before .before .before .args .split) (sym (c .before .before .read-part .ensures) ∙ c .enum-told .given .1)
+read-line-returns t c = c .enum-told .given .1 ∙ line-near-broken _ _ (c .before .before .before .before .before .args .split) (sym (c .before .before .read-part .ensures) ∙ c .enum-told .given .1)
 
 read-line-read-part-requires-2 : (t : ℕ) → read-line-lts.Need-read-part-requires-2 (read-line-calls t) (read-line-at t) read-line.Post
 read-line-read-part-requires-2 t c κs = (far-less (c .before .before .before .before .before .before .before .args .split) _ (c .before .before .before .before .before .before .before .pre .1) (c .before .before .before .before .before .before .before .pre .0), c .before .before .before .before .before .before .before .pre .1 .far)
@@ -67,7 +68,7 @@ read-line-enum-told-2 : (t : ℕ) → read-line-lts.Need-enum-told-2 (read-line-
 read-line-enum-told-2 t c = search needs
 
 read-line-returns-2 : (t : ℕ) → read-line-lts.Need-returns-2 (read-line-calls t) (read-line-at t) read-line.Post
-read-line-returns-2 t c = line-far-broken _ _ (c .before .before .before .before .before .before .before .before .before .before .args .split) _ _ (sym (c .before .before .before .before .before .before .before .read-part .ensures) ∙ c .before .before .before .before .before .first .given .1) (sym (c .before .before .read-part2 .ensures) ∙ c .enum-told2 .given .1)
+read-line-returns-2 t c = c .enum-told2 .given .1 ∙ line-far-broken _ _ (c .before .before .before .before .before .before .before .before .before .before .args .split) _ _ (sym (c .before .before .before .before .before .before .before .read-part .ensures) ∙ c .before .before .before .before .before .first .given .1) (sym (c .before .before .read-part2 .ensures) ∙ c .enum-told2 .given .1)
 
 read-line-added-requires : (t : ℕ) → read-line-lts.Need-added-requires (read-line-calls t) (read-line-at t) read-line.Post
 read-line-added-requires t c κs = adds-up _ _ (c .before .before .before .before .before .before .before .before .before .before .before .args .split) _ _ _ _ (c .before .before .before .before .before .before .before .before .before .before .before .pre .1) (sym (c .before .before .before .before .before .before .before .before .read-part .ensures) ∙ c .before .before .before .before .before .before .first .given .1) (sym (c .before .before .before .read-part2 .ensures) ∙ c .before .second .given .1)

@@ -5,12 +5,6 @@ use Rattle.nodes.proofs.Rules.{on-V, on-H, on-P, on-S, on-other}
 use borrow.Author.Needs.{needs}
 use Rattle.nodes.proofs.by_letter.Statement.{statement}
 use Rattle.nodes.proofs.by_letter.Tie as tie
-use Rattle.nodes.proofs.by_letter.Reads as reads
-use Rattle.nodes.proofs.by_letter.Lts as lts
-use Rattle.nodes.proofs.horizontal.Reads as horizontal-reads
-use Rattle.nodes.proofs.piece.Reads as piece-reads
-use Rattle.nodes.proofs.scrap.Reads as scrap-reads
-use Rattle.nodes.proofs.vertical.Reads as vertical-reads
 
 vertical-requires : tie.Need-vertical-requires
 vertical-requires c κs = search needs

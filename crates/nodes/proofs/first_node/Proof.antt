@@ -5,11 +5,6 @@ use Rattle.nodes.proofs.Rules.{node-short, node-whole}
 use borrow.Author.Needs.{needs}
 use Rattle.nodes.proofs.first_node.Statement.{statement}
 use Rattle.nodes.proofs.first_node.Tie as tie
-use Rattle.nodes.proofs.first_node.Reads as reads
-use Rattle.nodes.proofs.first_node.Lts as lts
-use Rattle.fields.proofs.number2.Reads as number2-reads
-use Rattle.nodes.proofs.by_letter.Reads as by-letter-reads
-use Rattle.nodes.proofs.wide.Reads as wide-reads
 
 returns : tie.Need-returns
 returns c = node-short _ _ _ (omega arith)

@@ -5,9 +5,6 @@ use Rattle.nodes.proofs.Rules.{horizontal-kept, horizontal-broken, insi
 use borrow.Author.Needs.{needs}
 use Rattle.nodes.proofs.horizontal.Statement.{statement}
 use Rattle.nodes.proofs.horizontal.Tie as tie
-use Rattle.nodes.proofs.horizontal.Reads as reads
-use Rattle.nodes.proofs.horizontal.Lts as lts
-use Rattle.nodes.proofs.is_inside.Reads as is-inside-reads
 
 is-inside-requires : tie.Need-is-inside-requires
 is-inside-requires c κs = search needs

@@ -5,8 +5,6 @@ use Rattle.laws.proofs.Says.{says-no}
 use Rattle.nodes.proofs.Rules.{isInside-says, inside-by}
 use Rattle.nodes.proofs.is_inside.Statement.{statement}
 use Rattle.nodes.proofs.is_inside.Tie as tie
-use Rattle.nodes.proofs.is_inside.Reads as reads
-use Rattle.nodes.proofs.is_inside.Lts as lts
 
 returns : tie.Need-returns
 returns c = sym (says-no (isInside-says _ _) (λ l. omega arith))

@@ -5,10 +5,6 @@ use Rattle.nodes.proofs.Rules.{piece-kept, piece-broken, row-sizes, row
 use borrow.Author.Needs.{needs}
 use Rattle.nodes.proofs.piece.Statement.{statement}
 use Rattle.nodes.proofs.piece.Tie as tie
-use Rattle.nodes.proofs.piece.Reads as reads
-use Rattle.nodes.proofs.piece.Lts as lts
-use Rattle.nodes.proofs.area.Reads as area-reads
-use Rattle.nodes.proofs.wide.Reads as wide-reads
 
 returns : tie.Need-returns
 returns c = piece-broken _ _ _ _ (λ n. omega arith)

@@ -4,9 +4,6 @@ use Rattle.nodes.proofs.Rules.{scrap-kept, scrap-broken}
 use borrow.Author.Needs.{needs}
 use Rattle.nodes.proofs.scrap.Statement.{statement}
 use Rattle.nodes.proofs.scrap.Tie as tie
-use Rattle.nodes.proofs.scrap.Reads as reads
-use Rattle.nodes.proofs.scrap.Lts as lts
-use Rattle.nodes.proofs.area.Reads as area-reads
 
 returns : tie.Need-returns
 returns c = scrap-broken _ _ _ (λ z. omega arith)

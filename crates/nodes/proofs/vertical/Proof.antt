@@ -5,9 +5,6 @@ use Rattle.nodes.proofs.Rules.{vertical-kept, vertical-broken, inside-b
 use borrow.Author.Needs.{needs}
 use Rattle.nodes.proofs.vertical.Statement.{statement}
 use Rattle.nodes.proofs.vertical.Tie as tie
-use Rattle.nodes.proofs.vertical.Reads as reads
-use Rattle.nodes.proofs.vertical.Lts as lts
-use Rattle.nodes.proofs.is_inside.Reads as is-inside-reads
 
 is-inside-requires : tie.Need-is-inside-requires
 is-inside-requires c κs = search needs

@@ -1,0 +1,22 @@
+-- Each answer laid out as the header's struct, field by field, from the one definition that gives number and values for its cases.
+use Rattle.desk.specs.declared.Changed.{Changed}
+use Rattle.desk.specs.declared.Asked.{Asked}
+use Rattle.desk.specs.Asking.{numbersOf}
+use Rattle.checker.specs.declared.Checked.{Checked}
+use Rattle.checker.specs.Checked.{answer}
+use Rattle.khonvertseg.specs.declared.KhonChanged.{KhonChanged}
+use Rattle.khonvertseg.specs.declared.KhonAsked.{KhonAsked}
+use Rattle.khonvertseg.specs.declared.KhonChecked.{KhonChecked}
+
+-- khon_changed
+abbrev pub flatChanged : Changed → KhonChanged
+flatChanged a = record { refusal = a .refusal; job = a .job }
+
+-- khon_asked
+abbrev pub flatAsked : Asked → KhonAsked
+flatAsked a = record { refusal = numbersOf a .refusal; value = numbersOf a .value; worked = numbersOf a .worked }
+
+-- khon_checked
+abbrev pub flatChecked : Checked → KhonChecked
+flatChecked a =
+    record { refusal = answer a .number; value = answer a .value; note = answer a .note; «piece_area» = answer a .pieceArea; «scrap_area» = answer a .scrapArea }

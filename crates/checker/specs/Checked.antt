@@ -36,6 +36,7 @@ unfoldable pub framed : List ℕ → Bool
 framed file =
     leb fileLeast (length file) && (leb (length file) fileMost && (leb distanceLeast (blockDistance file) && leb (blockDistance file) (trailerAt file)))
 
+-- The same as a fact.
 pub record Framed (file : List ℕ) : Type 0 where
   pub least : fileLeast ≤ length file
   pub most : length file ≤ fileMost
@@ -50,13 +51,14 @@ sumAgrees file = eqb (sumOf (summedBytes file)) (statedSum file)
 unfoldable pub agreed : Blocked → Bool
 agreed blocked = blocked .ok && jobInRange (blocked .job)
 
--- 12: "the nodes break a rule below", "bytes left after it"; 13: "the stated value isn't the sum of the leaves"
+-- The whole rectangle of a job, whose nodes start at a place, and what they are read as.
 abbrev pub whole : Job → ℕ → Frame
 whole job at = record { at = at; sides = record { width = job .width; height = job .height } }
 
 unfoldable pub nodesRead : List ℕ → Job → Part
 nodesRead file job = partAt (piecesOf job) (beforeTrailer file) (whole job (nodesAt file))
 
+-- 12: "the nodes break a rule below", "bytes left after it"; 13: "the stated value isn't the sum of the leaves"
 unfoldable pub judged : List ℕ → Part → Checked
 judged file (Part.Read next tally) =
     cond (eqb next (trailerAt file))
@@ -64,6 +66,7 @@ judged file (Part.Read next tally) =
     (Checked.Refused nodesBroken)
 judged file Part.Broken = Checked.Refused nodesBroken
 
+-- 11 to 13, by the job of the block.
 unfoldable pub judgedJob : List ℕ → Blocked → Checked
 judgedJob file blocked = cond (agreed blocked) (judged file (nodesRead file (blocked .job))) (Checked.Refused jobOutOfRange)
 

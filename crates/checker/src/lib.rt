@@ -16,7 +16,7 @@ ghost use Rattle.job.specs.Range.{JobInRange};
 ghost use Rattle.job.specs.Block.{fromBlock};
 ghost use Rattle.checker.specs.Refusals.{trailerLength, fileMost};
 ghost use Rattle.checker.specs.Fields.{trailerAt, blockDistance, nodesDistance, statedValue, noteLength, blockBytes};
-ghost use Rattle.checker.specs.Checked.{Framed, framed, sumAgrees, agreed, nodesRead, judged, checked};
+ghost use Rattle.checker.specs.Checked.{Framed, framed, sumAgrees, agreed, nodesRead, judged, CheckPromise};
 
 // The answer: a file's value, the length of its note, the area of its pieces and that of its scrap; or the number of a refusal.
 pub enum Checked {
@@ -217,7 +217,7 @@ fn judge(file: &[u8], read: Part) -> Checked
 
 // The refusals in their order.
 pub fn check(file: &[u8]) -> Checked
-    ensures { λ r. ⌜ r ≡ checked (now (file .entry)) ⌝ }
+    ensures { λ r. ⌜ CheckPromise (now (file .entry)) r ⌝ }
 {
     if !is_framed(file) {
         return Checked::Refused(NOT_FRAMED);

@@ -1,0 +1,3 @@
+-- Laws of writing text.
+pub mod Printed
+pub mod Decimal

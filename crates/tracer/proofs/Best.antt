@@ -1,18 +1,16 @@
 -- On a table of best values rule 6 strikes nowhere, and the tree earns the best value.
-use Prim.Native.Nat.{ℕ, suc, _+_, _-_, _/_, _≤_, _<_}
-use mathlib.Core.Bool.{Bool, true, false, _&&_}
-use mathlib.Core.Path.{_≡_, refl, sym, ap, ap₂, _∙_, subst}
+use Prim.Native.Nat.{ℕ, _+_, _-_, _≤_, _<_}
+use mathlib.Core.Bool.{true, _&&_}
+use mathlib.Core.Path.{_≡_, refl, sym, ap, ap₂, _∙_}
 use mathlib.Core.List.{List}
 use native.Mathlib.Omega.{arith}
-use lib.ListN.{length}
-use Rattle.cutting.specs.Piece.{Piece, pieceAt, Numbered, Lays, InRange, Fits, Inside, Turned}
-use Rattle.cutting.specs.Dissection.{rest, Line, Best}
-use Rattle.cutting.specs.Points.{P, Q}
-use Rattle.cutting.specs.Candidate.{Candidate, Smaller}
+use Rattle.cutting.specs.Piece.{Piece, pieceAt, Lays, InRange, Fits, Inside}
+use Rattle.cutting.specs.Dissection.{Line, Best}
+use Rattle.cutting.specs.Candidate.{Candidate}
 use Rattle.cutting.proofs.Rule.{best-is-worth}
 use Rattle.points.specs.Rows.{Rows}
-use Rattle.tracer.specs.Choice.{by, sideOf, near, far, numberOf, choose}
-use Rattle.tracer.specs.Chosen.{Fitting, Adds}
+use Rattle.tracer.specs.Choice.{sideOf, near, far, numberOf, choose}
+use Rattle.tracer.specs.Chosen.{Fitting}
 use Rattle.tracer.specs.Traced.{tracesBy, traced, traces, HoldsPieces, MarksPoints, Dissects}
 use Rattle.tracer.specs.declared.Sides.{Sides}
 use Rattle.tracer.specs.declared.Choice.{Choice}

@@ -1,14 +1,13 @@
 -- The choice of a rule is what the rule says: `choose` makes the choice that the rules ask for, and no other is asked for.
 use Prim.Native.Nat.{ℕ, zero, suc, _+_, _-_, _/_, _≤_, _<_}
-use mathlib.Core.Bool.{Bool, true, false, _&&_}
+use mathlib.Core.Bool.{Bool, true, false}
 use mathlib.Core.Path.{_≡_, refl, sym, ap, _∙_, subst}
 use native.Mathlib.Omega.{arith}
-use lib.Dec.{leb, ltb, eqb}
+use lib.Dec.{leb, ltb}
 use Rattle.laws.specs.Says.{Says}
 use Rattle.laws.specs.First.{firstBelow}
 use Rattle.laws.proofs.First.{first-before, first-passes, first-within}
-use Rattle.laws.proofs.Says.{true≢false, says-and, says-eq, says-le, says-lt, says-false, says-no}
-use Rattle.cutting.specs.Piece.{Fits}
+use Rattle.laws.proofs.Says.{says-and, says-eq, says-lt, says-false, says-no}
 use Rattle.cells.specs.Emptied.{fits}
 use Rattle.cells.proofs.Emptied.{fits-says}
 use Rattle.points.specs.Rows.{Rows}

@@ -1,6 +1,6 @@
 -- The rows that the code is lent hold the pieces, and their marks are the points.
-use Prim.Native.Nat.{ℕ, suc, _+_, _-_, _≤_, _<_}
-use mathlib.Core.Bool.{Bool, true, false}
+use Prim.Native.Nat.{ℕ, _-_, _≤_, _<_}
+use mathlib.Core.Bool.{Bool}
 use mathlib.Core.Path.{_≡_, sym, ap, subst, _∙_}
 use mathlib.Core.Logic.{_↔_}
 use mathlib.Core.List.{List}
@@ -9,7 +9,7 @@ use native.Mathlib.Numerals.{add-one}
 use lib.ListN.{length, getD}
 use Rattle.laws.proofs.ByIndex.{byIndex-length, byIndex-at}
 use Rattle.cutting.specs.Limits.{sideMax}
-use Rattle.cutting.specs.Piece.{Piece, sized, noPiece, pieceAt, Numbered, Lays, Turned}
+use Rattle.cutting.specs.Piece.{Piece, sized, noPiece, Lays, Turned}
 use Rattle.cutting.specs.Points.{Width}
 use Rattle.cutting.proofs.Listed.{Listed, listed-numbered, lays-listed, listed-lays}
 use Rattle.points.specs.Rows.{rowsOf}

@@ -1,19 +1,17 @@
 -- The laws of the rules' parts: the two parts of a line, the first piece that suits, the least line; as the code comes to them.
-use Prim.Native.Nat.{ℕ, zero, suc, _+_, _-_, _*_, _/_, _≤_, _<_}
+use Prim.Native.Nat.{ℕ, suc, _+_, _-_, _*_, _/_, _≤_, _<_}
 use mathlib.Core.Bool.{Bool, true, false, not, cond, _&&_}
-use mathlib.Core.Path.{_≡_, refl, sym, ap, ap₂, _∙_, subst}
+use mathlib.Core.Path.{_≡_, sym, ap, ap₂, _∙_, subst}
 use mathlib.Core.List.{List}
 use native.Mathlib.Omega.{arith}
 use native.Mathlib.Numerals.{add-one}
-use lib.Dec.{leb, eqb}
+use lib.Dec.{eqb}
 use borrow.Author.Tests.{eq-eqb, ne-eqb, lt-ltb, le-ltb}
 use Rattle.laws.specs.First.{firstBelow}
 use Rattle.laws.proofs.First.{first-start, first-more, first-stop}
 use Rattle.laws.proofs.Tests.{not-true, not-false}
 use Rattle.cutting.specs.Limits.{sideMax}
-use Rattle.cutting.specs.Piece.{Inside}
 use Rattle.cutting.specs.Dissection.{rest}
-use Rattle.cells.specs.Cells.{Holds}
 use Rattle.cells.specs.Emptied.{fits}
 use Rattle.cells.proofs.Places.{holds-lower}
 use Rattle.nodes.specs.Encoding.{nodeLength}

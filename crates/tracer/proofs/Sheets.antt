@@ -1,17 +1,15 @@
 -- Document 01's listings, traced: K1's and K5's trees from their tables.
 use Prim.Native.Nat.{ℕ}
-use mathlib.Core.Bool.{Bool, true, false}
+use mathlib.Core.Bool.{true, false}
 use mathlib.Core.Path.{_≡_, refl}
-use mathlib.Core.List.{List, [], _∷_}
-use Rattle.laws.specs.Below.{anyBelow}
-use Rattle.laws.specs.ByIndex.{byIndex}
+use mathlib.Core.List.{[], _∷_}
 use Rattle.laws.specs.First.{firstBelow}
 use Rattle.cutting.specs.Tree.{Tree}
 use Rattle.cells.specs.Cells.{place, cellOf}
 use Rattle.cells.specs.Emptied.{fits}
 use Rattle.points.specs.Rows.{Rows, rowsOf}
 use Rattle.tracer.specs.Choice.{by, sideOf, near, far, suits, firstPiece, addsTo, leastLine, orElse, chooseFor, choose}
-use Rattle.tracer.specs.Traced.{lineOf, trimTo, trimmed, treeBy, tracesBy, tracedWithin, tracesWithin, traced, traces}
+use Rattle.tracer.specs.Traced.{lineOf, trimTo, trimmed, treeBy, tracedWithin, traced}
 
 -- "K5: 3 by 3, one piece 2 by 2 value 5". P and Q are both {2}.
 abbrev pub K5-rows : Rows

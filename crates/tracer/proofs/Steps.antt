@@ -1,18 +1,18 @@
 -- A step of the recursion: what it may rely on at the two parts of a chosen line, which are smaller.
-use Prim.Native.Nat.{ℕ, _+_, _/_, _≤_, _<_}
+use Prim.Native.Nat.{ℕ, _+_, _≤_, _<_}
 use mathlib.Core.Bool.{Bool}
-use mathlib.Core.Path.{_≡_, sym, ap, _∙_, subst}
+use mathlib.Core.Path.{_≡_, sym, ap, subst}
 use mathlib.Core.List.{List}
 use native.Mathlib.Omega.{arith}
-use Rattle.cutting.specs.Limits.{sideMax, piecesMax}
+use Rattle.cutting.specs.Limits.{piecesMax}
 use Rattle.points.specs.Rows.{Rows}
 use Rattle.tracer.specs.Choice.{sideOf, near, far, choose}
-use Rattle.tracer.specs.Traced.{OnTable, Ready, Short, measured}
+use Rattle.tracer.specs.Traced.{Ready, Short, measured}
 use Rattle.tracer.specs.declared.Sides.{Sides}
 use Rattle.tracer.specs.declared.Cut.{Cut}
 use Rattle.tracer.specs.declared.Choice.{Choice}
 use Rattle.tracer.specs.declared.Measured.{Measured}
-use Rattle.tracer.proofs.Rules.{Within, near-table, far-table, side-most}
+use Rattle.tracer.proofs.Rules.{Within, near-table, far-table}
 use Rattle.tracer.proofs.Chosen.{Fact, fact}
 use Rattle.tracer.proofs.Depth.{Real, near-part, far-part}
 use Rattle.tracer.proofs.Traced.{within-of, measured-short}
@@ -33,6 +33,10 @@ module _ (rows : Rows) (cell : ℕ → ℕ → ℕ) (s : Sides) where
   pub piece-among : {k : ℕ} → rows .count ≤ piecesMax → choose rows cell s ≡ Choice.Piece k → k < piecesMax
   unfolding Fact
   piece-among h e = omega (arith, fact rows cell s e .among)
+
+  -- And its number has its two bytes.
+  pub piece-small : {k : ℕ} → rows .count ≤ piecesMax → choose rows cell s ≡ Choice.Piece k → k + 1 < 65_536
+  piece-small h e = omega (arith, piece-among h e)
 
 -- The line lies inside its side.
 pub within-side : (tall : Bool) {c : ℕ} (s : Sides) → Within tall c s → c ≤ sideOf tall s

@@ -1,8 +1,8 @@
 -- The tree by the rules: its equation, the length of its nodes, and that it is short.
-use Prim.Native.Nat.{ℕ, zero, suc, _+_, _-_, _*_, _/_, _≤_, _<_}
+use Prim.Native.Nat.{ℕ, _+_, _-_, _*_, _≤_}
 use mathlib.Core.Bool.{Bool, true, false, cond, _&&_}
 use mathlib.Core.Path.{_≡_, refl, sym, ap, ap₂, _∙_, subst}
-use mathlib.Core.List.{List, _++_}
+use mathlib.Core.List.{_++_}
 use native.Mathlib.Omega.{arith}
 use native.Mathlib.Nat.{mul-le-mul, add-mul, mul-comm}
 use lib.Dec.{ltb}
@@ -12,15 +12,15 @@ use Rattle.cutting.specs.Limits.{sideMax}
 use Rattle.points.specs.Rows.{Rows}
 use Rattle.nodes.specs.Encoding.{letterP, letterS, nodeLength, node, encode}
 use Rattle.nodes.proofs.Encoding.{node-length}
-use Rattle.tracer.specs.Choice.{sideOf, near, far, numberOf, choose}
+use Rattle.tracer.specs.Choice.{sideOf, near, far, choose}
 use Rattle.tracer.specs.Chosen.{Adds}
-use Rattle.tracer.specs.Traced.{lineOf, trimTo, leaf, trimmed, treeBy, tracesBy, tracedWithin, tracesWithin, traced, traces, nodesOf, measured, letterOf, trimLength, together, lengthMost, Short}
+use Rattle.tracer.specs.Traced.{lineOf, trimTo, leaf, trimmed, treeBy, tracesBy, tracedWithin, tracesWithin, traced, traces, nodesOf, measured, letterOf, trimLength, together, Short}
 use Rattle.tracer.specs.declared.Sides.{Sides}
 use Rattle.tracer.specs.declared.Cut.{Cut}
 use Rattle.tracer.specs.declared.Choice.{Choice}
 use Rattle.tracer.specs.declared.Measured.{Measured}
 use Rattle.tracer.proofs.Rules.{Within}
-use Rattle.tracer.proofs.Chosen.{Fact, fact, Unstruck}
+use Rattle.tracer.proofs.Chosen.{Fact, fact}
 use Rattle.tracer.proofs.Depth.{Real, Part, near-part, far-part, own, by-parts}
 
 -- The encoding of a line and of a leaf, and their lengths.

@@ -1,19 +1,18 @@
 -- Where rule 6 strikes nowhere, the tree is valid and earns the number in the cell, on any table.
-use Prim.Native.Nat.{ℕ, suc, _+_, _-_, _/_, _≤_, _<_}
+use Prim.Native.Nat.{ℕ, _+_, _-_, _/_, _≤_, _<_}
 use mathlib.Core.Bool.{Bool, true, false, _&&_}
 use mathlib.Core.Path.{_≡_, refl, sym, ap, ap₂, _∙_, subst}
 use mathlib.Core.Logic.{⊎-elim}
 use mathlib.Core.List.{List}
 use native.Mathlib.Omega.{arith}
-use native.Mathlib.Nat.{add-zero}
 use Rattle.laws.proofs.Order.{le-or-lt}
 use Rattle.laws.proofs.Says.{true≢false}
-use Rattle.cutting.specs.Piece.{Piece, pieceAt, Numbered, Lays, InRange, Fits}
+use Rattle.cutting.specs.Piece.{Piece, Numbered, Lays, InRange}
 use Rattle.cutting.specs.Dissection.{rest, Line}
 use Rattle.cutting.specs.Tree.{Tree, Valid, earning}
 use Rattle.points.specs.Rows.{Rows}
 use Rattle.tracer.specs.Choice.{sideOf, near, far, numberOf, choose}
-use Rattle.tracer.specs.Chosen.{Exact, Fitting, Adds}
+use Rattle.tracer.specs.Chosen.{Fitting}
 use Rattle.tracer.specs.Traced.{lineOf, trimTo, leaf, trimmed, treeBy, tracesBy, traced, traces, HoldsPieces, Dissects}
 use Rattle.tracer.specs.declared.Sides.{Sides}
 use Rattle.tracer.specs.declared.Choice.{Choice}

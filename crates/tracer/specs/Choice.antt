@@ -1,7 +1,7 @@
 -- "The tree for x by y, with V the number in its cell:" the six rules in their order. They choose the top of the tree;
 -- what is below a line comes "by these rules" again, and is no concern of this file.
-use Prim.Native.Nat.{ℕ, suc, _+_, _/_, _≤_}
-use mathlib.Core.Bool.{Bool, true, false, cond, _&&_}
+use Prim.Native.Nat.{ℕ, suc, _+_, _/_}
+use mathlib.Core.Bool.{Bool, true, false, _&&_}
 use lib.Dec.{leb, ltb, eqb}
 use Rattle.laws.specs.First.{firstBelow}
 use Rattle.cutting.specs.Dissection.{rest}

@@ -15,7 +15,6 @@ use Rattle.points.specs.Rows.{Rows}
 use Rattle.nodes.specs.Encoding.{letterV, letterH, nodeLength, encode}
 use Rattle.tracer.specs.Choice.{choose, near, far}
 use Rattle.tracer.specs.declared.Sides.{Sides}
-use Rattle.tracer.specs.declared.Cut.{Cut}
 use Rattle.tracer.specs.declared.Choice.{Choice}
 use Rattle.tracer.specs.declared.Measured.{Measured}
 

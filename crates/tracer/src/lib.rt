@@ -6,7 +6,7 @@ ghost use mathlib.Core.Bool.{true, false, _&&_};
 ghost use Prim.Native.Nat.{_+_, _*_, _/_, _≤_, _<_};
 ghost use lib.ListN.{length, getD};
 ghost use lib.Dec.{eqb};
-ghost use Rattle.cutting.specs.Limits.{piecesMax, sideMax};
+ghost use Rattle.cutting.specs.Limits.{piecesMax};
 ghost use Rattle.cells.specs.Cells.{empty, cellOf};
 ghost use Rattle.cells.specs.Emptied.{fits};
 ghost use Rattle.points.specs.Rows.{rowsOf};
@@ -211,32 +211,32 @@ pub fn choose(
     values: &[u16; 64],
     across: &[bool; 241],
     up: &[bool; 241],
-    count: usize,
-    cells: &[u32],
+    n: usize,
+    t: &[u32],
     a: usize,
     sides: Sides,
 ) -> Choice
-    requires { ⌜ Ready a count (now cells) sides ⌝ }
-    ensures { λ r. ⌜ r ≡ choose (rowsOf count (now (widths .entry)) (now (heights .entry)) (now (values .entry)) (now (across .entry)) (now (up .entry))) (cellOf a (now (cells .entry))) sides ⌝ }
+    requires { ⌜ Ready a n (now t) sides ⌝ }
+    ensures { λ r. ⌜ r ≡ choose (rowsOf n (now (widths .entry)) (now (heights .entry)) (now (values .entry)) (now (across .entry)) (now (up .entry))) (cellOf a (now (t .entry))) sides ⌝ }
 {
-    let number = number_of(cells, a, sides);
+    let number = number_of(t, a, sides);
     if number == 0 {
         return Choice::Scrap;
     }
-    let exact = first_piece(true, widths, heights, values, count, number, sides);
-    if exact < count {
+    let exact = first_piece(true, widths, heights, values, n, number, sides);
+    if exact < n {
         return Choice::Piece(exact);
     }
-    let c = least_line(false, across, cells, a, number, sides);
+    let c = least_line(false, across, t, a, number, sides);
     if c <= sides.width / 2 {
         return Choice::Line(Cut { tall: false, at: c });
     }
-    let d = least_line(true, up, cells, a, number, sides);
+    let d = least_line(true, up, t, a, number, sides);
     if d <= sides.height / 2 {
         return Choice::Line(Cut { tall: true, at: d });
     }
-    let fitting = first_piece(false, widths, heights, values, count, number, sides);
-    if fitting < count {
+    let fitting = first_piece(false, widths, heights, values, n, number, sides);
+    if fitting < n {
         return Choice::Trim(fitting);
     }
     Choice::Nothing
@@ -284,23 +284,23 @@ pub fn measure(
     values: &[u16; 64],
     across: &[bool; 241],
     up: &[bool; 241],
-    count: usize,
-    cells: &[u32],
+    n: usize,
+    t: &[u32],
     a: usize,
     sides: Sides,
 ) -> Measured
-    requires { ⌜ Ready a count (now cells) sides ⌝ }
-    ensures { λ r. ⌜ r ≡ measured (rowsOf count (now (widths .entry)) (now (heights .entry)) (now (values .entry)) (now (across .entry)) (now (up .entry))) (cellOf a (now (cells .entry))) sides ⌝ }
+    requires { ⌜ Ready a n (now t) sides ⌝ }
+    ensures { λ r. ⌜ r ≡ measured (rowsOf n (now (widths .entry)) (now (heights .entry)) (now (values .entry)) (now (across .entry)) (now (up .entry))) (cellOf a (now (t .entry))) sides ⌝ }
 {
-    let choice = choose(widths, heights, values, across, up, count, cells, a, sides);
+    let choice = choose(widths, heights, values, across, up, n, t, a, sides);
     match choice {
         Choice::Scrap => Measured::Length(3),
         Choice::Piece(_) => Measured::Length(3),
         Choice::Line(cut) => {
             let left = near(cut.tall, cut.at, sides);
-            let first = measure(widths, heights, values, across, up, count, cells, a, left);
+            let first = measure(widths, heights, values, across, up, n, t, a, left);
             let right = far(cut.tall, cut.at, sides);
-            let second = measure(widths, heights, values, across, up, count, cells, a, right);
+            let second = measure(widths, heights, values, across, up, n, t, a, right);
             together(first, second)
         }
         Choice::Trim(k) => Measured::Length(trimmed_length(widths, heights, k, sides)),
@@ -378,51 +378,27 @@ pub fn write(
     values: &[u16; 64],
     across: &[bool; 241],
     up: &[bool; 241],
-    count: usize,
-    cells: &[u32],
+    n: usize,
+    t: &[u32],
     a: usize,
     sides: Sides,
     o: &mut [u8],
     at: usize,
 ) -> usize
-    requires { ⌜ Ready a count (now cells) sides ⌝ }
-    requires { ⌜ Room (now o) at (nodesOf (rowsOf count (now widths) (now heights) (now values) (now across) (now up)) (cellOf a (now cells)) sides) ⌝ }
-    ensures { λ r. ⌜ Wrote (now (o .entry)) at (nodesOf (rowsOf count (now (widths .entry)) (now (heights .entry)) (now (values .entry)) (now (across .entry)) (now (up .entry))) (cellOf a (now (cells .entry))) sides) r (now (o .exit)) ⌝ }
+    requires { ⌜ Ready a n (now t) sides ⌝ }
+    requires { ⌜ Room (now o) at (nodesOf (rowsOf n (now widths) (now heights) (now values) (now across) (now up)) (cellOf a (now t)) sides) ⌝ }
+    ensures { λ r. ⌜ Wrote (now (o .entry)) at (nodesOf (rowsOf n (now (widths .entry)) (now (heights .entry)) (now (values .entry)) (now (across .entry)) (now (up .entry))) (cellOf a (now (t .entry))) sides) r (now (o .exit)) ⌝ }
 {
-    let choice = choose(widths, heights, values, across, up, count, cells, a, sides);
+    let choice = choose(widths, heights, values, across, up, n, t, a, sides);
     match choice {
         Choice::Scrap => write_node(o, at, b'S', 0),
         Choice::Piece(k) => write_node(o, at, b'P', k + 1),
         Choice::Line(cut) => {
             let next = write_node(o, at, letter_of(cut.tall), cut.at);
             let left = near(cut.tall, cut.at, sides);
-            let middle = write(
-                widths,
-                heights,
-                values,
-                across,
-                up,
-                count,
-                cells,
-                a,
-                left,
-                o,
-                next,
-            );
+            let last = write(widths, heights, values, across, up, n, t, a, left, o, next);
             let right = far(cut.tall, cut.at, sides);
-            write(
-                widths,
-                heights,
-                values,
-                across,
-                up,
-                count,
-                cells,
-                a,
-                right,
-                o,
-                middle,
-            )
+            write(widths, heights, values, across, up, n, t, a, right, o, last)
         }
         Choice::Trim(k) => write_piece_out(widths, heights, o, at, k, sides),
         Choice::Nothing => write_node(o, at, b'S', 0),

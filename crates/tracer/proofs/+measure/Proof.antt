@@ -1,6 +1,5 @@
 -- `tracer::measure` meets its contract. The measure is width plus height, which falls at each line.
 use mathlib.Core.Path.{sym, _∙_}
-use native.Mathlib.Omega.{arith}
 use borrow.Author.Needs.{needs}
 use Rattle.points.specs.Rows.{rowsOf}
 use Rattle.tracer.proofs.Traced.{measured-scrap, measured-piece, measured-line, measured-trim, measured-nothing}

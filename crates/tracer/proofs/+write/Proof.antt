@@ -3,7 +3,7 @@ use mathlib.Core.Path.{refl, sym, _∙_}
 use native.Mathlib.Omega.{arith}
 use borrow.Author.Needs.{needs}
 use Rattle.points.specs.Rows.{rowsOf}
-use Rattle.tracer.proofs.Steps.{real-of, line-within, trim-among, piece-among, within-side, near-ready, far-ready, near-less, far-less}
+use Rattle.tracer.proofs.Steps.{real-of, line-within, trim-among, piece-among, piece-small, within-side, near-ready, far-ready, near-less, far-less}
 use Rattle.tracer.proofs.Wrote.{node-space, room-as, wrote-as, line-room, near-room, far-room, wrote-line}
 use Rattle.tracer.proofs.Nodes.{nodes-scrap, nodes-piece, nodes-line, nodes-trim, nodes-nothing, wrote-letter, line-small}
 use Prim.Native.Nat.{ℕ, _+_, _<_}
@@ -54,8 +54,7 @@ write-add-write-node t c =
 write-write-node-requires-2 : (t : ℕ) → write-lts.Need-write-node-requires-2 (write-calls t) (write-at t) write.Post
 unfolding rowsOf
 write-write-node-requires-2 t c κs =
-    let small : c .before .before .choice .given .0 .0 < 64 = piece-among _ _ _ (c .before .before .before .before .before .before .before .pre .1 .0 .few) (sym (c .before .before .before .before .choose .ensures) ∙ c .before .before .choice .given .1) in
-    (node-space _ _ (room-as (nodes-piece _ _ _ (real-of (c .before .before .before .before .before .before .before .pre .1 .0)) (sym (c .before .before .before .before .choose .ensures) ∙ c .before .before .choice .given .1)) (c .before .before .before .before .before .before .before .pre .1 .1)), omega arith)
+    (node-space _ _ (room-as (nodes-piece _ _ _ (real-of (c .before .before .before .before .before .before .before .pre .1 .0)) (sym (c .before .before .before .before .choose .ensures) ∙ c .before .before .choice .given .1)) (c .before .before .before .before .before .before .before .pre .1 .1)), piece-small _ _ _ (c .before .before .before .before .before .before .before .pre .1 .0 .few) (sym (c .before .before .before .before .choose .ensures) ∙ c .before .before .choice .given .1))
 
 write-enum-known-choice-2 : (t : ℕ) → write-lts.Need-enum-known-choice-2 (write-calls t) (write-at t) write.Post
 write-enum-known-choice-2 t c = search needs

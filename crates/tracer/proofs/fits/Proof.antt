@@ -1,5 +1,4 @@
 -- `tracer::fits` meets its contract.
-use native.Mathlib.Omega.{arith}
 use Rattle.laws.proofs.Tests.{le-no, le-yes}
 use Rattle.cells.specs.Emptied.{fits}
 use mathlib.Core.Path.{refl}

@@ -1,5 +1,4 @@
 -- `tracer::is_size` meets its contract.
-use native.Mathlib.Omega.{arith}
 use Rattle.tracer.proofs.Rules.{eq-no, eq-yes}
 use mathlib.Core.Path.{refl}
 use Rattle.tracer.proofs.is_size.Statement.{statement}

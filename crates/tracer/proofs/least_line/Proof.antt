@@ -1,12 +1,11 @@
 -- `tracer::least_line` meets its contract. The loop's invariant: no line up to `before` is marked and adds to the number.
 use Prim.Native.Nat.{_-_, _≤_, _/_}
-use mathlib.Core.Path.{_≡_, ap}
+use mathlib.Core.Path.{ap}
 use mathlib.Core.Bool.{false}
 use lib.ListN.{getD}
 use native.Mathlib.Omega.{arith}
 use borrow.Author.Needs.{needs}
 use Rattle.cells.specs.Cells.{cellOf}
-use Rattle.tracer.specs.Choice.{sideOf}
 use Rattle.tracer.proofs.Rules.{noneUpTo, side-most, line-start, line-more, line-stop, line-end}
 use Rattle.tracer.proofs.least_line.Statement.{statement}
 use Rattle.tracer.proofs.least_line.Tie as tie

@@ -47,7 +47,7 @@ fn one_to(n: u32, most: u32) -> bool
 }
 
 // Does x by y lie inside a by b?
-fn inside(x: u32, y: u32, a: u16, b: u16) -> bool
+pub fn inside(x: u32, y: u32, a: u16, b: u16) -> bool
     ensures { λ r. ⌜ r ≡ (within x a && within y b) ⌝ }
 {
     if !one_to(x, cast(a)) {

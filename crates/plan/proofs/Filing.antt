@@ -1,0 +1,57 @@
+-- The file of a job's rectangle, part by part: there is room for each, and together they are the file.
+use Prim.Native.Nat.{ℕ, _+_, _-_, _≤_}
+use mathlib.Core.List.{List, _++_}
+use mathlib.Core.Path.{_≡_, sym, ap, _∙_}
+use native.Mathlib.Omega.{arith}
+use lib.ListN.{length, take}
+use Rattle.laws.specs.Put.{put}
+use Rattle.cutting.specs.Limits.{piecesMax}
+use Rattle.cutting.specs.Tree.{Tree, earning}
+use Rattle.fields.specs.Number.{bytes4}
+use Rattle.fields.specs.Sum.{sumOf}
+use Rattle.cells.specs.Cells.{cellOf}
+use Rattle.job.specs.declared.Job.{Job}
+use Rattle.job.specs.Job.{piecesOf}
+use Rattle.job.specs.Block.{block, blockOf, blockLength}
+use Rattle.nodes.specs.Encoding.{encode}
+use Rattle.tracer.specs.Traced.{Room, Wrote}
+use Rattle.checker.specs.Refusals.{fileMost}
+use Rattle.plan.specs.File.{sheetOf, treeFor, planFile}
+use Rattle.plan.specs.Planning.{Ready}
+use Rattle.plan.proofs.Writing.{sheet-pieces, body-length, file-length, block-room, nodes-room, at-end, trailer-room, sum-room, file-written}
+use Rattle.plan.proofs.Answers.{cell-earned, file-short}
+
+module _ (job : Job) (t : List ℕ) (x y : ℕ) (o : List ℕ) (ready : Ready job t x y o) where
+  abbrev sheet : Job
+  sheet = sheetOf job x y
+
+  abbrev tree : Tree
+  tree = treeFor job t x y
+
+  pub block-fits : (job .count ≤ piecesMax) × (blockLength (job .count) ≤ length o)
+  block-fits = (ready .readable .usable .range .countMost, block-room sheet tree o (ready .room))
+
+  module _ {p : List ℕ} {n start : ℕ} (first : p ≡ put o 0 (block x y (piecesOf job))) (counted : n ≡ job .count) (begin : start ≡ blockLength n) where
+    block-put : p ≡ put o 0 (blockOf sheet)
+    block-put = first ∙ ap (λ ps. put o 0 (block x y ps)) (sym (sheet-pieces job x y))
+
+    from : start ≡ blockLength (job .count)
+    from = begin ∙ ap blockLength counted
+
+    pub nodes-fit : Room p start (encode tree)
+    nodes-fit = nodes-room sheet tree o (ready .room) block-put from
+
+    module _ {q : List ℕ} {at : ℕ} (second : Wrote p start (encode tree) at q) where
+      pub pointers-fit : (at + 12 ≤ length q) × (at ≤ fileMost) × (at - start ≤ at)
+      pointers-fit =
+          omega (arith, trailer-room sheet tree o (ready .room) block-put from second, at-end sheet tree o (ready .room) block-put from second, body-length sheet tree, file-length sheet tree, file-short job t x y (ready .readable) (ready .traces))
+
+      module _ {r : List ℕ} {value : ℕ} (third : r ≡ put q at (bytes4 at ++ (bytes4 (at - start) ++ bytes4 value))) (cell : value ≡ cellOf (job .width) t x y) where
+        earned : value ≡ earning (piecesOf sheet) tree
+        earned = cell-earned job t x y (ready .readable) (ready .traces) cell
+
+        pub sum-fits : at + 12 + 4 ≤ length r
+        sum-fits = sum-room sheet tree o (ready .room) block-put from second third earned
+
+        pub filed : {s : List ℕ} {n : ℕ} → Wrote r (at + 12) (bytes4 (sumOf (take (at + 12) r))) n s → Wrote o 0 (planFile job t x y) n s
+        filed w = file-written sheet tree o (ready .room) block-put from second third earned w

@@ -1,0 +1,8 @@
+-- Laws of the call plan.
+pub mod Tracing
+pub mod Writing
+pub mod Exactly
+pub mod Answers
+pub mod Filing
+pub mod Promise
+pub mod Best

@@ -1,0 +1,59 @@
+-- `write_file` writes the parts of the file, one behind the other.
+use native.Mathlib.Omega.{arith}
+use Rattle.plan.proofs.Filing.{block-fits, nodes-fit, pointers-fit, sum-fits, filed}
+use borrow.Author.Needs.{needs}
+use Rattle.plan.proofs.file.write_file.Statement.{statement}
+use Rattle.plan.proofs.file.write_file.Tie as tie
+
+wide-requires : tie.Need-wide-requires
+wide-requires c κs = search needs
+
+block-length-requires : tie.Need-block-length-requires
+block-length-requires c κs = search needs
+
+cast-put-block : tie.Need-cast-put-block
+cast-put-block c = search needs
+
+cast-put-block-2 : tie.Need-cast-put-block-2
+cast-put-block-2 c = search needs
+
+put-block-requires : tie.Need-put-block-requires
+put-block-requires c κs = block-fits _ _ _ _ _ (c .before .before .before .before .before .pre .0)
+
+write-for-requires : tie.Need-write-for-requires
+write-for-requires c κs = let r = c .before .before .before .before .before .before .before .before .before .pre .0 in ((r .readable .usable, r .readable .inside), nodes-fit _ _ _ _ _ r (c .before .before .before .put-block .ensures) (c .before .before .before .before .before .before .wide .ensures) (c .before .before .before .before .before .block-length .ensures))
+
+sub-put-pointers : tie.Need-sub-put-pointers
+sub-put-pointers c = search needs
+
+put-pointers-requires : tie.Need-put-pointers-requires
+put-pointers-requires c κs = pointers-fit _ _ _ _ _ (c .before .before .before .before .before .before .before .before .before .before .before .before .before .pre .0) (c .before .before .before .before .before .before .before .put-block .ensures) (c .before .before .before .before .before .before .before .before .before .before .wide .ensures) (c .before .before .before .before .before .before .before .before .before .block-length .ensures) (c .before .before .before .write-for .ensures)
+
+add-put-sum : tie.Need-add-put-sum
+add-put-sum c = omega (arith, pointers-fit _ _ _ _ _ (c .before .before .before .before .before .before .before .before .before .before .before .before .before .before .before .before .before .pre .0) (c .before .before .before .before .before .before .before .before .before .before .before .put-block .ensures) (c .before .before .before .before .before .before .before .before .before .before .before .before .before .before .wide .ensures) (c .before .before .before .before .before .before .before .before .before .before .before .before .before .block-length .ensures) (c .before .before .before .before .before .before .before .write-for .ensures))
+
+put-sum-requires : tie.Need-put-sum-requires
+put-sum-requires c κs = sum-fits _ _ _ _ _ (c .before .before .before .before .before .before .before .before .before .before .before .before .before .before .before .before .before .pre .0) (c .before .before .before .before .before .before .before .before .before .before .before .put-block .ensures) (c .before .before .before .before .before .before .before .before .before .before .before .before .before .before .wide .ensures) (c .before .before .before .before .before .before .before .before .before .before .before .before .before .block-length .ensures) (c .before .before .before .before .before .before .before .write-for .ensures) (c .before .before .before .put-pointers .ensures) (c .before .before .before .before .before .before .before .before .before .before .before .before .before .before .before .before .before .pre .1)
+
+same-length : tie.Need-same-length
+same-length c = search needs
+
+returns : tie.Need-returns
+returns c = filed _ _ _ _ _ (c .before .before .before .before .before .before .before .before .before .before .before .before .before .before .before .before .before .before .before .before .pre .0) (c .before .before .before .before .before .before .before .before .before .before .before .before .before .before .put-block .ensures) (c .before .before .before .before .before .before .before .before .before .before .before .before .before .before .before .before .before .wide .ensures) (c .before .before .before .before .before .before .before .before .before .before .before .before .before .before .before .before .block-length .ensures) (c .before .before .before .before .before .before .before .before .before .before .write-for .ensures) (c .before .before .before .before .before .before .put-pointers .ensures) (c .before .before .before .before .before .before .before .before .before .before .before .before .before .before .before .before .before .before .before .before .pre .1) (c .before .before .put-sum .ensures)
+
+pub write-file-spec : {M : Type 1} → statement M
+write-file-spec =
+    tie.close
+    (tie.spec
+    wide-requires
+    block-length-requires
+    cast-put-block
+    cast-put-block-2
+    put-block-requires
+    write-for-requires
+    sub-put-pointers
+    put-pointers-requires
+    add-put-sum
+    put-sum-requires
+    same-length
+    returns)

@@ -1,0 +1,47 @@
+-- `plan` answers and writes as it promises.
+use native.Mathlib.Omega.{arith}
+use Rattle.plan.proofs.Exactly.{plan-granted}
+use Rattle.plan.proofs.Answers.{refused-answer, written-answer, cell-there, cell-read, length-fits}
+use Rattle.plan.specs.Planning.{planned, plannedBytes}
+use borrow.Author.Needs.{needs}
+use Rattle.plan.proofs.plan.Statement.{statement}
+use Rattle.plan.proofs.plan.Tie as tie
+
+plan-refused-requires : tie.Need-plan-refused-requires
+plan-refused-requires c κs = search needs
+
+returns : tie.Need-returns
+unfolding planned plannedBytes
+returns c = refused-answer _ _ _ (c .before .plan-refused .ensures) (c .if1 .taken)
+
+wide-requires : tie.Need-wide-requires
+wide-requires c κs = search needs
+
+cell-requires : tie.Need-cell-requires
+cell-requires c κs = cell-there _ _ _ _ (plan-granted _ _ _ _ (c .before .before .before .before .before .args .o .now) (c .before .before .plan-refused .ensures) (c .before .if1 .left) .readable) (c .wide .ensures)
+
+write-file-requires : tie.Need-write-file-requires
+write-file-requires c κs = (plan-granted _ _ _ _ _ (c .before .before .before .before .plan-refused .ensures) (c .before .before .before .if1 .left), cell-read (c .before .before .before .before .before .before .before .args .job) _ _ _ (c .before .cell .ensures) (c .before .before .wide .ensures))
+
+cast-t15 : tie.Need-cast-t15
+cast-t15 c = omega (arith, length-fits _ _ _ _ (plan-granted _ _ _ _ _ (c .before .before .before .before .before .before .before .plan-refused .ensures) (c .before .before .before .before .before .before .if1 .left)) (c .before .before .write-file .ensures))
+
+same-length : tie.Need-same-length
+same-length c = search needs
+
+returns-2 : tie.Need-returns-2
+unfolding planned plannedBytes
+returns-2 c = written-answer (c .before .before .before .before .before .before .before .plan-refused .ensures) (c .before .before .before .before .before .before .if1 .left) (c .before .before .write-file .ensures) (cell-read (c .before .before .before .before .before .before .before .before .before .before .args .job) _ _ _ (c .before .before .before .before .cell .ensures) (c .before .before .before .before .before .wide .ensures))
+
+pub plan-spec : {M : Type 1} → statement M
+plan-spec =
+    tie.close
+    (tie.spec
+    plan-refused-requires
+    returns
+    wide-requires
+    cell-requires
+    write-file-requires
+    cast-t15
+    same-length
+    returns-2)

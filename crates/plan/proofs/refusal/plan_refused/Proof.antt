@@ -1,0 +1,25 @@
+-- `plan_refused` goes along its chain.
+use Rattle.desk.proofs.Chain.{first-refuses, first-passes}
+use Rattle.plan.proofs.Exactly.{readable-of}
+use Rattle.plan.specs.Refusals.{planRefused}
+use borrow.Author.Needs.{needs}
+use Rattle.plan.proofs.refusal.plan_refused.Statement.{statement}
+use Rattle.plan.proofs.refusal.plan_refused.Tie as tie
+
+box-refused-requires : tie.Need-box-refused-requires
+box-refused-requires c κs = search needs
+
+returns : tie.Need-returns
+unfolding planRefused
+returns c = first-refuses _ (c .before .box-refused .ensures) (c .if1 .taken)
+
+file-refused-requires : tie.Need-file-refused-requires
+file-refused-requires c κs = readable-of _ _ _ _ (c .before .box-refused .ensures) (c .if1 .left)
+
+returns-2 : tie.Need-returns-2
+unfolding planRefused
+returns-2 c = first-passes (c .before .before .box-refused .ensures) (c .before .if1 .left) (c .file-refused .ensures)
+
+pub plan-refused-spec : {M : Type 1} → statement M
+plan-refused-spec =
+    tie.close (tie.spec box-refused-requires returns file-refused-requires returns-2)

@@ -1,0 +1,51 @@
+-- `measure_for`: the rows and marks that are made are those of the job.
+use Rattle.desk.proofs.Granted.{rows-are}
+use Rattle.plan.proofs.Tracing.{trace-ready, measured-as}
+use borrow.Author.Needs.{needs}
+use Rattle.plan.proofs.tree.measure_for.Statement.{statement}
+use Rattle.plan.proofs.tree.measure_for.Tie as tie
+
+wide-requires : tie.Need-wide-requires
+wide-requires c κs = search needs
+
+wide-requires-2 : tie.Need-wide-requires-2
+wide-requires-2 c κs = search needs
+
+row-requires : tie.Need-row-requires
+row-requires c κs = search needs
+
+row-requires-2 : tie.Need-row-requires-2
+row-requires-2 c κs = search needs
+
+row-requires-3 : tie.Need-row-requires-3
+row-requires-3 c κs = search needs
+
+marks-requires : tie.Need-marks-requires
+marks-requires c κs = search needs
+
+wide-requires-3 : tie.Need-wide-requires-3
+wide-requires-3 c κs = search needs
+
+marks-requires-2 : tie.Need-marks-requires-2
+marks-requires-2 c κs = search needs
+
+measure-requires : tie.Need-measure-requires
+measure-requires c κs = trace-ready _ _ _ _ (c .before .before .before .before .before .before .before .before .before .before .before .before .before .before .before .before .pre) (c .before .before .before .before .before .before .before .before .before .before .before .before .before .wide2 .ensures) (c .before .before .before .before .before .before .before .before .before .before .before .before .before .before .wide .ensures)
+
+returns : tie.Need-returns
+returns c = measured-as _ _ _ _ (rows-are _ (c .before .before .before .before .before .before .before .before .before .before .before .before .before .before .wide2 .ensures) (c .before .before .before .before .before .before .before .before .before .before .before .before .before .before .before .wide .ensures) (c .before .before .before .before .before .before .before .wide3 .ensures) (c .before .before .before .before .before .before .before .before .before .before .before .before .before .row .ensures) (c .before .before .before .before .before .before .before .before .before .before .before .before .row2 .ensures) (c .before .before .before .before .before .before .before .before .before .before .before .row3 .ensures) (c .before .before .before .before .before .before .before .before .before .marks .ensures) (c .before .before .before .before .before .before .marks2 .ensures)) (c .before .before .before .before .before .before .before .before .before .before .before .before .before .before .before .wide .ensures) (c .measure .ensures)
+
+pub measure-for-spec : {M : Type 1} → statement M
+measure-for-spec =
+    tie.close
+    (tie.spec
+    wide-requires
+    wide-requires-2
+    row-requires
+    row-requires-2
+    row-requires-3
+    marks-requires
+    wide-requires-3
+    marks-requires-2
+    measure-requires
+    returns)

@@ -1,0 +1,57 @@
+-- `write_for`: the rows and marks that are made are those of the job.
+use mathlib.Core.Path.{sym}
+use Rattle.desk.proofs.Granted.{rows-are}
+use Rattle.tracer.proofs.Wrote.{wrote-as, room-as}
+use Rattle.plan.proofs.Tracing.{trace-ready, nodes-as}
+use borrow.Author.Needs.{needs}
+use Rattle.plan.proofs.tree.write_for.Statement.{statement}
+use Rattle.plan.proofs.tree.write_for.Tie as tie
+
+wide-requires : tie.Need-wide-requires
+wide-requires c κs = search needs
+
+wide-requires-2 : tie.Need-wide-requires-2
+wide-requires-2 c κs = search needs
+
+row-requires : tie.Need-row-requires
+row-requires c κs = search needs
+
+row-requires-2 : tie.Need-row-requires-2
+row-requires-2 c κs = search needs
+
+row-requires-3 : tie.Need-row-requires-3
+row-requires-3 c κs = search needs
+
+marks-requires : tie.Need-marks-requires
+marks-requires c κs = search needs
+
+wide-requires-3 : tie.Need-wide-requires-3
+wide-requires-3 c κs = search needs
+
+marks-requires-2 : tie.Need-marks-requires-2
+marks-requires-2 c κs = search needs
+
+write-requires : tie.Need-write-requires
+write-requires c κs = (trace-ready _ _ _ _ (c .before .before .before .before .before .before .before .before .before .before .before .before .before .before .before .before .before .before .pre .0) (c .before .before .before .before .before .before .before .before .before .before .before .before .before .before .wide2 .ensures) (c .before .before .before .before .before .before .before .before .before .before .before .before .before .before .before .wide .ensures), room-as (sym (nodes-as _ _ _ _ (rows-are _ (c .before .before .before .before .before .before .before .before .before .before .before .before .before .before .wide2 .ensures) (c .before .before .before .before .before .before .before .before .before .before .before .before .before .before .before .wide .ensures) (c .before .before .before .before .before .before .before .wide3 .ensures) (c .before .before .before .before .before .before .before .before .before .before .before .before .before .row .ensures) (c .before .before .before .before .before .before .before .before .before .before .before .before .row2 .ensures) (c .before .before .before .before .before .before .before .before .before .before .before .row3 .ensures) (c .before .before .before .before .before .before .before .before .before .marks .ensures) (c .before .before .before .before .before .before .marks2 .ensures)) (c .before .before .before .before .before .before .before .before .before .before .before .before .before .before .before .wide .ensures))) (c .before .before .before .before .before .before .before .before .before .before .before .before .before .before .before .before .before .before .pre .1))
+
+same-length : tie.Need-same-length
+same-length c = search needs
+
+returns : tie.Need-returns
+returns c = wrote-as (sym (nodes-as _ _ _ _ (rows-are _ (c .before .before .before .before .before .before .before .before .before .before .before .before .before .before .before .before .before .wide2 .ensures) (c .before .before .before .before .before .before .before .before .before .before .before .before .before .before .before .before .before .before .wide .ensures) (c .before .before .before .before .before .before .before .before .before .before .wide3 .ensures) (c .before .before .before .before .before .before .before .before .before .before .before .before .before .before .before .before .row .ensures) (c .before .before .before .before .before .before .before .before .before .before .before .before .before .before .before .row2 .ensures) (c .before .before .before .before .before .before .before .before .before .before .before .before .before .before .row3 .ensures) (c .before .before .before .before .before .before .before .before .before .before .before .before .marks .ensures) (c .before .before .before .before .before .before .before .before .before .marks2 .ensures)) (c .before .before .before .before .before .before .before .before .before .before .before .before .before .before .before .before .before .before .wide .ensures))) (c .before .before .write .ensures)
+
+pub write-for-spec : {M : Type 1} → statement M
+write-for-spec =
+    tie.close
+    (tie.spec
+    wide-requires
+    wide-requires-2
+    row-requires
+    row-requires-2
+    row-requires-3
+    marks-requires
+    wide-requires-3
+    marks-requires-2
+    write-requires
+    same-length
+    returns)

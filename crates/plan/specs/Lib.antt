@@ -1,0 +1,6 @@
+-- The call plan: what it answers and what it writes, for all input.
+pub mod File
+pub mod Refusals
+pub mod Planning
+pub mod Promise
+pub mod Accepted

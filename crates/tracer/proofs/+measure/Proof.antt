@@ -1,7 +1,11 @@
 -- `tracer::measure` meets its contract. The measure is width plus height, which falls at each line.
-use mathlib.Core.Path.{sym, _∙_}
+use mathlib.Core.Path.{_≡_, sym, _∙_}
 use borrow.Author.Needs.{needs}
-use Rattle.points.specs.Rows.{rowsOf}
+use Rattle.cells.specs.Cells.{cellOf}
+use Rattle.points.specs.Rows.{Rows, rowsOf}
+use Rattle.tracer.specs.Choice.{choose}
+use Rattle.tracer.specs.declared.Choice.{Choice}
+use Rattle.tracer.proofs.Rules.{Within}
 use Rattle.tracer.proofs.Traced.{measured-scrap, measured-piece, measured-line, measured-trim, measured-nothing}
 use Rattle.tracer.proofs.Steps.{real-of, line-within, trim-among, within-side, near-ready, far-ready, near-less, far-less, short-of}
 use Prim.Native.Nat.{ℕ, _+_, _<_}
@@ -30,6 +34,23 @@ measure-below t = and 6 measure-kinds.ps (falls 6 measure-kinds.ps _<_ μ-measur
 abbrev measure-calls : ℕ → measure-lts.Claims
 measure-calls t = (choose-reads.Asked, choose-reads.Learnt, near-reads.Asked, near-reads.Learnt, measure-below t, measure.Post, far-reads.Asked, far-reads.Learnt, together-reads.Asked, together-reads.Learnt, trimmed-length-reads.Asked, trimmed-length-reads.Learnt)
 
+-- What `measure` was called with.
+abbrev Entry : ℕ → Type 0
+Entry t = measure-lts.Start (measure-calls t) (measure-at t) measure.Post
+
+abbrev rows : (t : ℕ) → Entry t → Rows
+rows t e = rowsOf (e .args .n) (e .args .widths .now) (e .args .heights .now) (e .args .values .now) (e .args .across .now) (e .args .up .now)
+
+abbrev cell : (t : ℕ) → Entry t → ℕ → ℕ → ℕ
+cell t e = cellOf (e .args .a) (e .args .t .now)
+
+-- A line was chosen, and it lies within its side.
+chosen-line : (t : ℕ) (c : measure-lts.After-known-told (measure-calls t) (measure-at t) measure.Post) → choose (rows t (c .before .before .before .before .before)) (cell t (c .before .before .before .before .before)) (c .before .before .before .before .before .args .sides) ≡ Choice.Line (c .before .choice .given .0 .0)
+chosen-line t c = sym (c .before .before .before .choose .ensures) ∙ c .before .choice .given .1
+
+line-lies : (t : ℕ) (c : measure-lts.After-known-told (measure-calls t) (measure-at t) measure.Post) → Within (c .before .choice .given .0 .0 .tall) (c .before .choice .given .0 .0 .at) (c .before .before .before .before .before .args .sides)
+line-lies t c = line-within _ _ _ (chosen-line t c)
+
 measure-choose-requires : (t : ℕ) → measure-lts.Need-choose-requires (measure-calls t) (measure-at t) measure.Post
 measure-choose-requires t c κs = c .before .pre .1
 
@@ -46,16 +67,25 @@ measure-near-requires : (t : ℕ) → measure-lts.Need-near-requires (measure-ca
 measure-near-requires t c κs = search needs
 
 measure-measure-requires : (t : ℕ) → measure-lts.Need-measure-requires (measure-calls t) (measure-at t) measure.Post
-measure-measure-requires t c κs = (near-less (c .before .before .before .before .before .before .pre .1) (c .near .ensures) (line-within _ _ _ (sym (c .before .before .before .before .choose .ensures) ∙ c .before .before .choice .given .1)) (c .before .before .before .before .before .before .pre .0), near-ready (c .before .before .before .before .before .before .pre .1) (c .near .ensures) (line-within _ _ _ (sym (c .before .before .before .before .choose .ensures) ∙ c .before .before .choice .given .1)))
+measure-measure-requires t c κs =
+    let lies = line-lies t (c .before) in
+    let ready = c .before .before .before .before .before .before .pre .1 in
+    (near-less ready (c .near .ensures) lies (c .before .before .before .before .before .before .pre .0), near-ready ready (c .near .ensures) lies)
 
 measure-far-requires : (t : ℕ) → measure-lts.Need-far-requires (measure-calls t) (measure-at t) measure.Post
-measure-far-requires t c κs = within-side _ _ (line-within _ _ _ (sym (c .before .before .before .before .before .choose .ensures) ∙ c .before .before .before .choice .given .1))
+measure-far-requires t c κs = within-side _ _ (line-lies t (c .before .before))
 
 measure-measure-requires-2 : (t : ℕ) → measure-lts.Need-measure-requires-2 (measure-calls t) (measure-at t) measure.Post
-measure-measure-requires-2 t c κs = (far-less (c .before .before .before .before .before .before .before .before .pre .1) (c .far .ensures) (line-within _ _ _ (sym (c .before .before .before .before .before .before .choose .ensures) ∙ c .before .before .before .before .choice .given .1)) (c .before .before .before .before .before .before .before .before .pre .0), far-ready (c .before .before .before .before .before .before .before .before .pre .1) (c .far .ensures) (line-within _ _ _ (sym (c .before .before .before .before .before .before .choose .ensures) ∙ c .before .before .before .before .choice .given .1)))
+measure-measure-requires-2 t c κs =
+    let lies = line-lies t (c .before .before .before) in
+    let ready = c .before .before .before .before .before .before .before .before .pre .1 in
+    (far-less ready (c .far .ensures) lies (c .before .before .before .before .before .before .before .before .pre .0), far-ready ready (c .far .ensures) lies)
 
 measure-together-requires : (t : ℕ) → measure-lts.Need-together-requires (measure-calls t) (measure-at t) measure.Post
-measure-together-requires t c κs = (short-of _ _ (near-ready (c .before .before .before .before .before .before .before .before .before .pre .1) (c .before .before .before .near .ensures) (line-within _ _ _ (sym (c .before .before .before .before .before .before .before .choose .ensures) ∙ c .before .before .before .before .before .choice .given .1))) (c .before .before .measure .ensures), short-of _ _ (far-ready (c .before .before .before .before .before .before .before .before .before .pre .1) (c .before .far .ensures) (line-within _ _ _ (sym (c .before .before .before .before .before .before .before .choose .ensures) ∙ c .before .before .before .before .before .choice .given .1))) (c .measure2 .ensures))
+measure-together-requires t c κs =
+    let lies = line-lies t (c .before .before .before .before) in
+    let ready = c .before .before .before .before .before .before .before .before .before .pre .1 in
+    (short-of (rows t (c .before .before .before .before .before .before .before .before .before)) (cell t (c .before .before .before .before .before .before .before .before .before)) (near-ready ready (c .before .before .before .near .ensures) lies) (c .before .before .measure .ensures), short-of (rows t (c .before .before .before .before .before .before .before .before .before)) (cell t (c .before .before .before .before .before .before .before .before .before)) (far-ready ready (c .before .far .ensures) lies) (c .measure2 .ensures))
 
 measure-enum-known-choice-2 : (t : ℕ) → measure-lts.Need-enum-known-choice-2 (measure-calls t) (measure-at t) measure.Post
 measure-enum-known-choice-2 t c = search needs
@@ -74,7 +104,8 @@ measure-returns-2 : (t : ℕ) → measure-lts.Need-returns-2 (measure-calls t) (
 measure-returns-2 t c = measured-piece _ _ _ (real-of (c .before .before .before .before .pre .1)) (sym (c .before .before .choose .ensures) ∙ c .enum-told2 .given .1)
 
 measure-returns-3 : (t : ℕ) → measure-lts.Need-returns-3 (measure-calls t) (measure-at t) measure.Post
-measure-returns-3 t c = measured-line _ _ _ (real-of (c .before .before .before .before .before .before .before .before .before .before .pre .1)) (sym (c .before .before .before .before .before .before .before .before .choose .ensures) ∙ c .before .before .before .before .before .before .choice .given .1) (c .before .before .before .before .near .ensures) (c .before .before .far .ensures) (c .before .before .before .measure .ensures) (c .before .measure2 .ensures) (c .together .ensures)
+measure-returns-3 t c =
+    measured-line _ _ _ (real-of (c .before .before .before .before .before .before .before .before .before .before .pre .1)) (chosen-line t (c .before .before .before .before .before)) (c .before .before .before .before .near .ensures) (c .before .before .far .ensures) (c .before .before .before .measure .ensures) (c .before .measure2 .ensures) (c .together .ensures)
 
 measure-returns-4 : (t : ℕ) → measure-lts.Need-returns-4 (measure-calls t) (measure-at t) measure.Post
 unfolding rowsOf

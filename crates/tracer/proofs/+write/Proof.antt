@@ -1,8 +1,15 @@
 -- `tracer::write` meets its contract. The measure is width plus height, which falls at each line.
-use mathlib.Core.Path.{refl, sym, _∙_}
+use mathlib.Core.Path.{_≡_, refl, sym, _∙_}
 use native.Mathlib.Omega.{arith}
 use borrow.Author.Needs.{needs}
-use Rattle.points.specs.Rows.{rowsOf}
+use Rattle.cells.specs.Cells.{cellOf}
+use Rattle.points.specs.Rows.{Rows, rowsOf}
+use Rattle.nodes.specs.Encoding.{node, encode}
+use Rattle.tracer.specs.Choice.{near, far, choose}
+use Rattle.tracer.specs.Traced.{lineOf, letterOf, traced, Room, Wrote}
+use Rattle.tracer.specs.declared.Sides.{Sides}
+use Rattle.tracer.specs.declared.Choice.{Choice}
+use Rattle.tracer.proofs.Rules.{Within}
 use Rattle.tracer.proofs.Steps.{real-of, line-within, trim-among, piece-among, piece-small, within-side, near-ready, far-ready, near-less, far-less}
 use Rattle.tracer.proofs.Wrote.{node-space, room-as, wrote-as, line-room, near-room, far-room, wrote-line}
 use Rattle.tracer.proofs.Nodes.{nodes-scrap, nodes-piece, nodes-line, nodes-trim, nodes-nothing, wrote-letter, line-small}
@@ -32,6 +39,30 @@ write-below t = and 7 write-kinds.ps (falls 7 write-kinds.ps _<_ μ-write t) wri
 
 abbrev write-calls : ℕ → write-lts.Claims
 write-calls t = (choose-reads.Asked, choose-reads.Learnt, write-node-reads.Asked, write-node-reads.Learnt, letter-of-reads.Asked, letter-of-reads.Learnt, near-reads.Asked, near-reads.Learnt, write-below t, write.Post, far-reads.Asked, far-reads.Learnt, write-piece-out-reads.Asked, write-piece-out-reads.Learnt)
+
+-- What `write` was called with.
+abbrev Entry : ℕ → Type 0
+Entry t = write-lts.Start (write-calls t) (write-at t) write.Post
+
+abbrev rows : (t : ℕ) → Entry t → Rows
+rows t e = rowsOf (e .args .n) (e .args .widths .now) (e .args .heights .now) (e .args .values .now) (e .args .across .now) (e .args .up .now)
+
+abbrev cell : (t : ℕ) → Entry t → ℕ → ℕ → ℕ
+cell t e = cellOf (e .args .a) (e .args .t .now)
+
+-- A line was chosen: it lies within its side, and there is room for its node and its two parts.
+chosen-line : (t : ℕ) (c : write-lts.After-known-told2 (write-calls t) (write-at t) write.Post) → choose (rows t (c .before .before .before .before .before .before)) (cell t (c .before .before .before .before .before .before)) (c .before .before .before .before .before .before .args .sides) ≡ Choice.Line (c .before .choice2 .given .0 .0)
+chosen-line t c = sym (c .before .before .before .choose .ensures) ∙ c .before .choice2 .given .1
+
+line-lies : (t : ℕ) (c : write-lts.After-known-told2 (write-calls t) (write-at t) write.Post) → Within (c .before .choice2 .given .0 .0 .tall) (c .before .choice2 .given .0 .0 .at) (c .before .before .before .before .before .before .args .sides)
+line-lies t c = line-within _ _ _ (chosen-line t c)
+
+parts-room : (t : ℕ) (c : write-lts.After-known-told2 (write-calls t) (write-at t) write.Post) {u w : Sides} → u ≡ near (c .before .choice2 .given .0 .0 .tall) (c .before .choice2 .given .0 .0 .at) (c .before .before .before .before .before .before .args .sides) → w ≡ far (c .before .choice2 .given .0 .0 .tall) (c .before .choice2 .given .0 .0 .at) (c .before .before .before .before .before .before .args .sides) → Room (c .before .before .before .before .before .before .args .o .now) (c .before .before .before .before .before .before .args .at) (encode (lineOf (c .before .choice2 .given .0 .0 .tall) (c .before .choice2 .given .0 .0 .at) (traced (rows t (c .before .before .before .before .before .before)) (cell t (c .before .before .before .before .before .before)) u) (traced (rows t (c .before .before .before .before .before .before)) (cell t (c .before .before .before .before .before .before)) w)))
+parts-room t c e f = room-as (nodes-line _ _ _ (real-of (c .before .before .before .before .before .before .pre .1 .0)) (chosen-line t c) e f) (c .before .before .before .before .before .before .pre .1 .1)
+
+-- Its node was written.
+node-wrote : (t : ℕ) (c : write-lts.After-write-node3 (write-calls t) (write-at t) write.Post) → Wrote (c .before .before .before .before .before .before .before .before .before .args .o .now) (c .before .before .before .before .before .before .before .before .before .args .at) (node (letterOf (c .before .before .before .before .choice2 .given .0 .0 .tall)) (c .before .before .before .before .choice2 .given .0 .0 .at)) (c .write-node3 .result) (c .write-node3 .last .0)
+node-wrote t c = wrote-letter _ (c .before .letter-of .ensures) (c .write-node3 .ensures)
 
 write-choose-requires : (t : ℕ) → write-lts.Need-choose-requires (write-calls t) (write-at t) write.Post
 write-choose-requires t c κs = c .before .before .pre .1 .0
@@ -63,19 +94,27 @@ write-letter-of-requires : (t : ℕ) → write-lts.Need-letter-of-requires (writ
 write-letter-of-requires t c κs = search needs
 
 write-write-node-requires-3 : (t : ℕ) → write-lts.Need-write-node-requires-3 (write-calls t) (write-at t) write.Post
-write-write-node-requires-3 t c κs = (node-space _ _ (line-room _ _ _ _ (room-as (nodes-line _ _ _ (real-of (c .before .before .before .before .before .before .before .before .pre .1 .0)) (sym (c .before .before .before .before .before .choose .ensures) ∙ c .before .before .before .choice2 .given .1) refl refl) (c .before .before .before .before .before .before .before .before .pre .1 .1))), line-small (c .before .before .before .before .before .before .before .before .pre .1 .0) (line-within _ _ _ (sym (c .before .before .before .before .before .choose .ensures) ∙ c .before .before .before .choice2 .given .1)))
+write-write-node-requires-3 t c κs = (node-space _ _ (line-room _ _ _ _ (parts-room t (c .before .before) refl refl)), line-small (c .before .before .before .before .before .before .before .before .pre .1 .0) (line-lies t (c .before .before)))
 
 write-near-requires : (t : ℕ) → write-lts.Need-near-requires (write-calls t) (write-at t) write.Post
 write-near-requires t c κs = search needs
 
 write-write-requires : (t : ℕ) → write-lts.Need-write-requires (write-calls t) (write-at t) write.Post
-write-write-requires t c κs = (near-less (c .before .before .before .before .before .before .before .before .before .before .before .before .before .pre .1 .0) (c .before .near .ensures) (line-within _ _ _ (sym (c .before .before .before .before .before .before .before .before .before .before .choose .ensures) ∙ c .before .before .before .before .before .before .before .before .choice2 .given .1)) (c .before .before .before .before .before .before .before .before .before .before .before .before .before .pre .0), (near-ready (c .before .before .before .before .before .before .before .before .before .before .before .before .before .pre .1 .0) (c .before .near .ensures) (line-within _ _ _ (sym (c .before .before .before .before .before .before .before .before .before .before .choose .ensures) ∙ c .before .before .before .before .before .before .before .before .choice2 .given .1)), near-room _ _ _ _ (room-as (nodes-line _ _ _ (real-of (c .before .before .before .before .before .before .before .before .before .before .before .before .before .pre .1 .0)) (sym (c .before .before .before .before .before .before .before .before .before .before .choose .ensures) ∙ c .before .before .before .before .before .before .before .before .choice2 .given .1) (c .before .near .ensures) refl) (c .before .before .before .before .before .before .before .before .before .before .before .before .before .pre .1 .1)) (wrote-letter _ (c .before .before .before .before .before .letter-of .ensures) (c .before .before .before .before .write-node3 .ensures))))
+write-write-requires t c κs =
+    let lies = line-lies t (c .before .before .before .before .before .before .before) in
+    let ready = c .before .before .before .before .before .before .before .before .before .before .before .before .before .pre .1 .0 in
+    let near = c .before .near .ensures in
+    (near-less ready near lies (c .before .before .before .before .before .before .before .before .before .before .before .before .before .pre .0), (near-ready ready near lies, near-room _ _ _ _ (parts-room t (c .before .before .before .before .before .before .before) near refl) (node-wrote t (c .before .before .before .before))))
 
 write-far-requires : (t : ℕ) → write-lts.Need-far-requires (write-calls t) (write-at t) write.Post
-write-far-requires t c κs = within-side _ _ (line-within _ _ _ (sym (c .before .before .before .before .before .before .before .before .before .before .before .before .before .choose .ensures) ∙ c .before .before .before .before .before .before .before .before .before .before .before .choice2 .given .1))
+write-far-requires t c κs = within-side _ _ (line-lies t (c .before .before .before .before .before .before .before .before .before .before))
 
 write-write-requires-2 : (t : ℕ) → write-lts.Need-write-requires-2 (write-calls t) (write-at t) write.Post
-write-write-requires-2 t c κs = (far-less (c .before .before .before .before .before .before .before .before .before .before .before .before .before .before .before .before .before .before .pre .1 .0) (c .before .far .ensures) (line-within _ _ _ (sym (c .before .before .before .before .before .before .before .before .before .before .before .before .before .before .before .choose .ensures) ∙ c .before .before .before .before .before .before .before .before .before .before .before .before .before .choice2 .given .1)) (c .before .before .before .before .before .before .before .before .before .before .before .before .before .before .before .before .before .before .pre .0), (far-ready (c .before .before .before .before .before .before .before .before .before .before .before .before .before .before .before .before .before .before .pre .1 .0) (c .before .far .ensures) (line-within _ _ _ (sym (c .before .before .before .before .before .before .before .before .before .before .before .before .before .before .before .choose .ensures) ∙ c .before .before .before .before .before .before .before .before .before .before .before .before .before .choice2 .given .1)), far-room _ _ _ _ (room-as (nodes-line _ _ _ (real-of (c .before .before .before .before .before .before .before .before .before .before .before .before .before .before .before .before .before .before .pre .1 .0)) (sym (c .before .before .before .before .before .before .before .before .before .before .before .before .before .before .before .choose .ensures) ∙ c .before .before .before .before .before .before .before .before .before .before .before .before .before .choice2 .given .1) (c .before .before .before .before .before .before .near .ensures) (c .before .far .ensures)) (c .before .before .before .before .before .before .before .before .before .before .before .before .before .before .before .before .before .before .pre .1 .1)) (wrote-letter _ (c .before .before .before .before .before .before .before .before .before .before .letter-of .ensures) (c .before .before .before .before .before .before .before .before .before .write-node3 .ensures)) (c .before .before .before .before .write .ensures)))
+write-write-requires-2 t c κs =
+    let lies = line-lies t (c .before .before .before .before .before .before .before .before .before .before .before .before) in
+    let ready = c .before .before .before .before .before .before .before .before .before .before .before .before .before .before .before .before .before .before .pre .1 .0 in
+    let far = c .before .far .ensures in
+    (far-less ready far lies (c .before .before .before .before .before .before .before .before .before .before .before .before .before .before .before .before .before .before .pre .0), (far-ready ready far lies, far-room _ _ _ _ (parts-room t (c .before .before .before .before .before .before .before .before .before .before .before .before) (c .before .before .before .before .before .before .near .ensures) far) (node-wrote t (c .before .before .before .before .before .before .before .before .before)) (c .before .before .before .before .write .ensures)))
 
 write-enum-known-choice-3 : (t : ℕ) → write-lts.Need-enum-known-choice-3 (write-calls t) (write-at t) write.Post
 write-enum-known-choice-3 t c = search needs
@@ -106,7 +145,11 @@ write-same-length-3 : (t : ℕ) → write-lts.Need-same-length-3 (write-calls t)
 write-same-length-3 t c = search needs
 
 write-returns-3 : (t : ℕ) → write-lts.Need-returns-3 (write-calls t) (write-at t) write.Post
-write-returns-3 t c = wrote-as (nodes-line _ _ _ (real-of (c .before .before .before .before .before .before .before .before .before .before .before .before .before .before .before .before .before .before .before .before .before .pre .1 .0)) (sym (c .before .before .before .before .before .before .before .before .before .before .before .before .before .before .before .before .before .before .choose .ensures) ∙ c .before .before .before .before .before .before .before .before .before .before .before .before .before .before .before .before .choice2 .given .1) (c .before .before .before .before .before .before .before .before .before .near .ensures) (c .before .before .before .before .far .ensures)) (wrote-line _ _ _ _ (room-as (nodes-line _ _ _ (real-of (c .before .before .before .before .before .before .before .before .before .before .before .before .before .before .before .before .before .before .before .before .before .pre .1 .0)) (sym (c .before .before .before .before .before .before .before .before .before .before .before .before .before .before .before .before .before .before .choose .ensures) ∙ c .before .before .before .before .before .before .before .before .before .before .before .before .before .before .before .before .choice2 .given .1) (c .before .before .before .before .before .before .before .before .before .near .ensures) (c .before .before .before .before .far .ensures)) (c .before .before .before .before .before .before .before .before .before .before .before .before .before .before .before .before .before .before .before .before .before .pre .1 .1)) (wrote-letter _ (c .before .before .before .before .before .before .before .before .before .before .before .before .before .letter-of .ensures) (c .before .before .before .before .before .before .before .before .before .before .before .before .write-node3 .ensures)) (c .before .before .before .before .before .before .before .write .ensures) (c .before .before .write2 .ensures))
+write-returns-3 t c =
+    let near = c .before .before .before .before .before .before .before .before .before .near .ensures in
+    let far = c .before .before .before .before .far .ensures in
+    wrote-as (nodes-line _ _ _ (real-of (c .before .before .before .before .before .before .before .before .before .before .before .before .before .before .before .before .before .before .before .before .before .pre .1 .0)) (chosen-line t (c .before .before .before .before .before .before .before .before .before .before .before .before .before .before .before)) near far)
+    (wrote-line _ _ _ _ (parts-room t (c .before .before .before .before .before .before .before .before .before .before .before .before .before .before .before) near far) (node-wrote t (c .before .before .before .before .before .before .before .before .before .before .before .before)) (c .before .before .before .before .before .before .before .write .ensures) (c .before .before .write2 .ensures))
 
 write-same-length-4 : (t : ℕ) → write-lts.Need-same-length-4 (write-calls t) (write-at t) write.Post
 write-same-length-4 t c = search needs

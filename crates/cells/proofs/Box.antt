@@ -93,6 +93,10 @@ countInBox-bound x y test =
     omega (arith, sumBelow-within (λ j. countInRow x (suc j) test) y x (λ j h. countInRow-bound x (suc j) test), mul-comm x y)
 
 -- The count is 0 exactly where there is no such cell.
+pub countInRow-zero : (x w : ℕ) (test : ℕ → ℕ → Bool) → ((u : ℕ) → 1 ≤ u → u ≤ x → test u w ≡ false) → countInRow x w test ≡ 0
+unfolding countInRow
+countInRow-zero x w test h = sumBelow-zero _ x (λ i b. ap counted (h (suc i) (omega arith) (omega arith)))
+
 pub countInBox-zero : (x y : ℕ) (test : ℕ → ℕ → Bool) → anyInBox x y test ≡ false → countInBox x y test ≡ 0
 unfolding countInBox countInRow
 countInBox-zero x y test none =

@@ -31,6 +31,15 @@ unfolding filled
 filled-none rows a b x y t h =
     sym (redrawn-same a b _ (cellOf a t) t (λ u w i. ap (λ (s : Bool). cond s (final rows (cellOf a t) u w) (cellOf a t u w)) (says-no (fits-says u w x y) (λ f. ⊎-elim (λ e. omega (arith, f .wide)) (λ e. omega (arith, f .high)) h))) ∙ redrawn-keeps a b t)
 
+-- A full box is filled as it is.
+pub filled-full : (rows : Rows) (a b x y : ℕ) (t : List ℕ) → a * b ≤ length t → x ≤ a → y ≤ b → Full a t x y → t ≡ filled rows a b x y t
+unfolding filled
+filled-full rows a b x y t room h k full = sym (redrawn-same a b _ (cellOf a t) t (λ u w i. by u w i (fits u w x y) (fits-says u w x y)) ∙ redrawn-keeps a b t)
+  where
+    by : (u w : ℕ) → Inside u w a b → (s : Bool) → Says s (Fits u w x y) → cond s (final rows (cellOf a t) u w) (cellOf a t u w) ≡ cellOf a t u w
+    by u w i true s = let f = s .means refl in final-kept rows (cellOf a t) u w (i .widthLeast) (i .heightLeast) (full u w (omega arith))
+    by u w i false s = refl
+
 pub filled-length : (rows : Rows) (a b x y : ℕ) (t : List ℕ) → length (filled rows a b x y t) ≡ length t
 unfolding filled
 filled-length rows a b x y t = redrawn-length a b _ t

@@ -1,5 +1,5 @@
 -- What the code needs and gives at each cell, row and box, over the definitions.
-use Prim.Native.Nat.{ℕ, zero, suc, _+_, _-_, _*_, _/_, _≤_, _<_, max}
+use Prim.Native.Nat.{ℕ, zero, suc, _+_, _-_, _*_, _≤_, _<_, max}
 use mathlib.Core.Bool.{Bool, true, false, cond}
 use mathlib.Core.Path.{_≡_, refl, sym, ap, ap₂, _∙_, subst}
 use mathlib.Core.List.{List}
@@ -16,60 +16,46 @@ use Rattle.cutting.proofs.Bound.{most, most-parts}
 use Rattle.cells.specs.Cells.{empty, place, cellOf, Holds}
 use Rattle.cells.specs.Box.{isEmpty, counted, countInRow, countInBox}
 use Rattle.cells.proofs.Places.{holds-lower, area-fits}
-use Rattle.cells.proofs.Box.{isEmpty-says, countInRow-more, countInBox-more, countInRow-same, countInRow-bound, countInBox-bound}
-use Rattle.points.specs.Rows.{Rows, rowsOf}
-use Rattle.fill.specs.Worth.{fittingValue, lineValue, worthOf, partOf, Strip}
+use Rattle.cells.proofs.Box.{isEmpty-says, countInRow-more, countInBox-more, countInRow-same, countInRow-zero, countInRow-bound, countInBox-bound}
+use Rattle.points.specs.Rows.{Rows}
+use Rattle.fill.specs.Worth.{fittingValue, lineValue, worthOf, RowLines}
+use Rattle.fill.specs.Floor.{floorBy, cellRaised, LinesUp, FullBefore}
+use Rattle.fill.proofs.Worth.{lineValue-same}
 use Rattle.fill.specs.Filled.{final, filled, cellFilled, Full, Bounded, Around, RowReady, BoxReady}
 use Rattle.fill.proofs.Filled.{most-fits, final-most, filled-inside, filled-outside}
-use Rattle.fill.proofs.Growing.{filled-again, filled-length, filled-cell, early, old-cell}
+use Rattle.fill.proofs.Growing.{filled-again, filled-length, filled-full, filled-cell, early, old-cell}
 
--- The two strips through a cell.
-around-row : (a : ℕ) (t : List ℕ) (u w : ℕ) → Around a t u w → Strip a t false w u
-unfolding partOf
-around-row a t u w s =
+-- The lines across up to a cell.
+pub around-lines : (a : ℕ) (t : List ℕ) (u w : ℕ) → Around a t u w → RowLines a t w u
+around-lines a t u w s =
     record {
       holds = s .holds;
       wide = s .wide;
-      least = s .holds .heightLeast;
       adds = λ c r l. omega (arith, s .below c w (small c (omega arith) (omega arith)), s .below r w (small r (omega arith) (omega arith)), most-parts u w c r (omega arith), most-fits u w (omega (arith, s .wide, s .holds .widthMost)) (s .holds .heightMost));
     }
   where
     small : (c : ℕ) → 1 ≤ c → c < u → Smaller c w u w
     small c p h = record { inside = record { widthLeast = p; widthMost = omega arith; heightLeast = s .holds .heightLeast; heightMost = omega arith }; less = omega arith }
 
-around-column : (a : ℕ) (t : List ℕ) (u w : ℕ) → Around a t u w → Strip a t true u w
-unfolding partOf
-around-column a t u w s =
-    record {
-      holds = s .holds;
-      wide = s .wide;
-      least = s .least;
-      adds = λ c r l. omega (arith, s .below u c (small c (omega arith) (omega arith)), s .below u r (small r (omega arith) (omega arith)), most-parts w u c r (omega arith), most-fits u w (omega (arith, s .wide, s .holds .widthMost)) (s .holds .heightMost));
-    }
-  where
-    small : (c : ℕ) → 1 ≤ c → c < w → Smaller u c u w
-    small c p h = record { inside = record { widthLeast = s .least; widthMost = omega arith; heightLeast = p; heightMost = omega arith }; less = omega arith }
-
-pub strips : (a : ℕ) (t : List ℕ) (u w : ℕ) → Around a t u w → (Strip a t false w u × (u ≤ sideMax)) × (Strip a t true u w × (w ≤ sideMax))
-strips a t u w s = ((around-row a t u w s, omega (arith, s .wide, s .holds .widthMost)), (around-column a t u w s, s .holds .heightMost))
-
--- The three parts of a cell's worth, joined.
-pub worth-joined : (n : ℕ) (widths heights values : List ℕ) (across up : List Bool) (a : ℕ) (t : List ℕ) (u w : ℕ) {piece row column lines r : ℕ} → piece ≡ fittingValue (λ k. getD widths k 0) (λ k. getD heights k 0) (λ k. getD values k 0) n u w → row ≡ lineValue (λ k. getD across k false) (partOf a t false w) u → column ≡ lineValue (λ k. getD up k false) (partOf a t true u) w → lines ≡ max row column → r ≡ max piece lines → r ≡ worthOf (rowsOf n widths heights values across up) (cellOf a t) u w
-unfolding worthOf rowsOf partOf
-worth-joined n widths heights values across up a t u w p e f g h = h ∙ ap₂ max p (g ∙ ap₂ max e f)
-
 -- A cell that is not empty is left, an empty one is worked out.
-pub cell-kept : (rows : Rows) (a u w : ℕ) (t : List ℕ) {v : ℕ} → v ≡ cellOf a t u w → (v ≡ empty → ⊥) → (0 ≡ counted (isEmpty a t u w)) × (t ≡ cellFilled rows a u w t)
-unfolding cellFilled
-cell-kept rows a u w t e h =
+pub cell-kept : (floor : ℕ) (inP : ℕ → Bool) (a u w : ℕ) (t : List ℕ) {v : ℕ} → v ≡ cellOf a t u w → (v ≡ empty → ⊥) → (0 ≡ counted (isEmpty a t u w)) × (t ≡ cellRaised floor inP a u w t)
+unfolding cellRaised
+cell-kept floor inP a u w t e h =
     let s = says-no (isEmpty-says a t u w) (λ k. h (e ∙ k)) in
-    (ap counted (sym s), ap (λ (b : Bool). cond b (set t (place a u w) (worthOf rows (cellOf a t) u w)) t) (sym s))
+    (ap counted (sym s), ap (λ (b : Bool). cond b (set t (place a u w) (max floor (lineValue inP (λ c. cellOf a t c w) u))) t) (sym s))
 
-pub cell-worked : (rows : Rows) (a u w : ℕ) (t t' : List ℕ) {v m : ℕ} → v ≡ cellOf a t u w → v ≡ empty → m ≡ worthOf rows (cellOf a t) u w → t' ≡ set t (place a u w) m → (1 ≡ counted (isEmpty a t u w)) × (t' ≡ cellFilled rows a u w t)
-unfolding cellFilled
-cell-worked rows a u w t t' e h g k =
+pub cell-worked : (floor : ℕ) (inP : ℕ → Bool) (a u w : ℕ) (t t' : List ℕ) {v line m : ℕ} → v ≡ cellOf a t u w → v ≡ empty → line ≡ lineValue inP (λ c. cellOf a t c w) u → m ≡ max floor line → t' ≡ set t (place a u w) m → (1 ≡ counted (isEmpty a t u w)) × (t' ≡ cellRaised floor inP a u w t)
+unfolding cellRaised
+cell-worked floor inP a u w t t' e h l g k =
     let s = isEmpty-says a t u w .found (sym e ∙ h) in
-    (ap counted (sym s), k ∙ (ap (set t (place a u w)) g ∙ ap (λ (b : Bool). cond b (set t (place a u w) (worthOf rows (cellOf a t) u w)) t) (sym s)))
+    (ap counted (sym s), k ∙ (ap (set t (place a u w)) (g ∙ ap (max floor) l) ∙ ap (λ (b : Bool). cond b (set t (place a u w) (max floor (lineValue inP (λ c. cellOf a t c w) u))) t) (sym s)))
+
+-- A cell raised from its true floor gets its worth.
+raised-filled : (rows : Rows) (a u w : ℕ) (t : List ℕ) {floor : ℕ} → floor ≡ floorBy (rows .width) (rows .height) (rows .value) (rows .count) (rows .inQ) (cellOf a t) w u → cellRaised floor (rows .inP) a u w t ≡ cellFilled rows a u w t
+unfolding cellRaised cellFilled floorBy worthOf
+raised-filled rows a u w t {floor} e =
+    let worth : max floor (lineValue (rows .inP) (λ c. cellOf a t c w) u) ≡ worthOf rows (cellOf a t) u w = omega (arith, e) in
+    ap (λ (v : ℕ). cond (isEmpty a t u w) (set t (place a u w) v) t) worth
 
 -- Along a row: the first i cells of row w are done.
 module _ (rows : Rows) (a b x w : ℕ) (t : List ℕ) (ready : RowReady rows a b x w t) (i : ℕ) (more : i < x) where
@@ -89,9 +75,15 @@ module _ (rows : Rows) (a b x w : ℕ) (t : List ℕ) (ready : RowReady rows a b
       h : Holds a w t
       h = holds-lower w (ready .holds) (ready .inside .heightLeast) (ready .inside .heightMost)
 
-  pub row-more : {now next : List ℕ} → now ≡ filled rows a b i w t → next ≡ cellFilled rows a (i + 1) w now → next ≡ filled rows a b (i + 1) w t
-  row-more e f =
-      f ∙ (ap (cellFilled rows a (i + 1) w) e ∙ filled-cell rows a b t (ready .holds .room) i w (omega (arith, ready .inside .widthMost)) (ready .inside .heightLeast) (ready .inside .heightMost) full)
+  -- The floor of the next cell is as it was before the row.
+  floor-still : floorBy (rows .width) (rows .height) (rows .value) (rows .count) (rows .inQ) (cellOf a (filled rows a b i w t)) w (i + 1) ≡ floorBy (rows .width) (rows .height) (rows .value) (rows .count) (rows .inQ) (cellOf a t) w (i + 1)
+  unfolding floorBy
+  floor-still =
+      ap (max _) (lineValue-same (rows .inQ) _ _ w (λ d p h. filled-outside rows a b i w t (ready .holds .room) (omega (arith, ready .inside .widthMost)) (ready .inside .heightMost) (i + 1) d (omega (arith, ready .inside)) (λ f. omega (arith, f .wide))))
+
+  pub row-more : {now next : List ℕ} {floor : ℕ} → now ≡ filled rows a b i w t → floor ≡ floorBy (rows .width) (rows .height) (rows .value) (rows .count) (rows .inQ) (cellOf a t) w (i + 1) → next ≡ cellRaised floor (rows .inP) a (i + 1) w now → next ≡ filled rows a b (i + 1) w t
+  row-more {now} {next} {floor} e g f =
+      f ∙ (ap (cellRaised floor (rows .inP) a (i + 1) w) e ∙ (raised-filled rows a (i + 1) w (filled rows a b i w t) (g ∙ sym floor-still) ∙ filled-cell rows a b t (ready .holds .room) i w (omega (arith, ready .inside .widthMost)) (ready .inside .heightLeast) (ready .inside .heightMost) full))
 
   pub row-count : {now : List ℕ} {m r : ℕ} → now ≡ filled rows a b i w t → m ≡ countInRow i w (isEmpty a t) → r ≡ counted (isEmpty a now (i + 1) w) → m + r ≡ countInRow (i + 1) w (isEmpty a t)
   unfolding isEmpty
@@ -101,6 +93,54 @@ module _ (rows : Rows) (a b x w : ℕ) (t : List ℕ) (ready : RowReady rows a b
 
   pub row-within : {now : List ℕ} {m r : ℕ} → now ≡ filled rows a b i w t → m ≡ countInRow i w (isEmpty a t) → r ≡ counted (isEmpty a now (i + 1) w) → m + r ≤ i + 1
   row-within e f g = subst (λ (k : ℕ). k ≤ i + 1) (sym (row-count e f g)) (countInRow-bound (i + 1) w (isEmpty a t))
+
+-- Looking for the first empty cell of a row.
+pub before-none : (a : ℕ) (t : List ℕ) (x w : ℕ) → FullBefore a t x w (0 + 1)
+before-none a t x w = record { least = omega arith; most = omega arith; full = λ u p h. absurd (omega arith) }
+
+pub before-more : (a : ℕ) (t : List ℕ) (x w i : ℕ) {v : ℕ} → i < x → FullBefore a t x w (i + 1) → v ≡ cellOf a t (i + 1) w → (v ≡ empty → ⊥) → FullBefore a t x w (i + 1 + 1)
+before-more a t x w i l f e h =
+    record {
+      least = omega arith;
+      most = omega arith;
+      full = λ u p b. ⊎-elim (λ q. subst (λ (m : ℕ). cellOf a t m w ≡ empty → ⊥) (sym q) (λ z. h (e ∙ z))) (λ k. f .full u p k) (last-or-below {k = u} {n = i + 1} (omega arith));
+    }
+
+pub row-cells : (a : ℕ) (t : List ℕ) (x w i : ℕ) → Holds a w t → x ≤ a → i < x → Holds a w t × Inside (i + 1) w a w
+row-cells a t x w i h k l =
+    (h, record { widthLeast = omega arith; widthMost = omega arith; heightLeast = h .heightLeast; heightMost = omega arith })
+
+-- A row can be entered at the column before which it is full.
+module _ (rows : Rows) (a b x w from : ℕ) (t : List ℕ) (ready : RowReady rows a b x w t) (start : FullBefore a t x w from) where
+  entered-full : Full a t (from - 1) w
+  entered-full u v i =
+      ⊎-elim (λ e. subst (λ (m : ℕ). cellOf a t u m ≡ empty → ⊥) (sym e) (start .full u (i .widthLeast) (omega (arith, i .widthMost, start .least))))
+      (λ l. ready .full u v (omega (arith, i, start .most, start .least)))
+      (last-or-below {k = v} {n = w} (omega (arith, i .heightMost)))
+
+  pub entered : t ≡ filled rows a b (from - 1) w t
+  entered = filled-full rows a b (from - 1) w t (ready .holds .room) (omega (arith, start .most, ready .inside .widthMost)) (ready .inside .heightMost) entered-full
+
+  pub entered-count : 0 ≡ countInRow (from - 1) w (isEmpty a t)
+  entered-count = sym (countInRow-zero (from - 1) w (isEmpty a t) (λ u p h. says-no (isEmpty-says a t u w) (start .full u p (omega (arith, start .least)))))
+
+  pub lines-up : LinesUp a t from x w
+  lines-up =
+      record {
+        holds = holds-lower w (ready .holds) (ready .inside .heightLeast) (ready .inside .heightMost);
+        least = start .least;
+        wide = ready .inside .widthMost;
+        adds = λ u d r h k l. omega (arith, below u d h k (omega arith) (omega arith), below u r h k (omega arith) (omega arith), most-parts w u d r (omega arith), most-fits u w (omega (arith, k, ready .inside, ready .holds)) (omega (arith, ready .inside, ready .holds)));
+      }
+    where
+      below : (u d : ℕ) → from ≤ u → u ≤ x → 1 ≤ d → d < w → cellOf a t u d ≤ most u d
+      below u d h k p l = ready .bounded u d (omega (arith, start .least)) (ready .full u d (omega (arith, start .least)))
+
+-- Nothing is to be done in a row that is full.
+pub row-full : (rows : Rows) (a b x w from : ℕ) (t : List ℕ) → RowReady rows a b x w t → FullBefore a t x w from → x < from → (0 ≡ countInRow x w (isEmpty a t)) × (t ≡ filled rows a b x w t)
+row-full rows a b x w from t ready start past =
+    subst (λ (m : ℕ). (0 ≡ countInRow m w (isEmpty a t)) × (t ≡ filled rows a b m w t)) (omega (arith, start .most, start .least))
+    (entered-count rows a b x w from t ready start, entered rows a b x w from t ready start)
 
 -- Up the rows: the first j rows of the box are done.
 module _ (rows : Rows) (a b x y : ℕ) (t : List ℕ) (ready : BoxReady rows a b x y t) (j : ℕ) (more : j < y) where

@@ -13,7 +13,7 @@ use Rattle.cutting.specs.Dissection.{rest}
 use Rattle.cutting.specs.Piece.{Inside}
 use Rattle.cells.specs.Cells.{Holds, cellOf}
 use Rattle.cells.specs.Emptied.{fits}
-use Rattle.fill.specs.Worth.{fittingValue, lineAt, lineValue, partOf, Strip}
+use Rattle.fill.specs.Worth.{fittingValue, lineAt, lineValue, RowLines}
 use Rattle.cells.proofs.Emptied.{fits-says}
 
 pub fits-value : (p q v u w : ℕ) → p ≤ u → q ≤ w → v ≡ cond (fits p q u w) v 0
@@ -59,31 +59,11 @@ module _ (marked : ℕ → Bool) (part : ℕ → ℕ) (x : ℕ) where
   unfolding lineAt
   line-unmarked {c} e t = ap (λ (b : Bool). cond b (part c + part (rest x c)) 0) (sym t ∙ e)
 
--- The cells of a strip, whichever way it is cut.
-pub strip-up : (a : ℕ) (t : List ℕ) (tall : Bool) (side x c : ℕ) → Strip a t tall side x → tall ≡ true → 1 ≤ c → c < x → Holds a c t × Inside side c a c
-strip-up a t false side x c s e p h = absurd (true≢false (sym e))
-strip-up a t true side x c s e p h =
-    let m = s .holds in (
-      record { widthLeast = m .widthLeast; widthMost = m .widthMost; heightLeast = p; heightMost = omega arith; room = omega (arith, mul-le-mul-left {m = c} {n = x} a (omega arith)) },
-      record { widthLeast = s .least; widthMost = s .wide; heightLeast = p; heightMost = omega arith },
-    )
+-- The cells of a line across row w.
+pub row-cell : (a : ℕ) (t : List ℕ) (w x c : ℕ) → RowLines a t w x → 1 ≤ c → c < x → Holds a w t × Inside c w a w
+row-cell a t w x c s p h =
+    (s .holds, record { widthLeast = p; widthMost = omega (arith, s .wide); heightLeast = s .holds .heightLeast; heightMost = omega arith })
 
-pub strip-across : (a : ℕ) (t : List ℕ) (tall : Bool) (side x c : ℕ) → Strip a t tall side x → tall ≡ false → 1 ≤ c → c < x → Holds a side t × Inside c side a side
-strip-across a t true side x c s e p h = absurd (true≢false e)
-strip-across a t false side x c s e p h =
-    (s .holds, record { widthLeast = p; widthMost = omega (arith, s .wide); heightLeast = s .least; heightMost = omega arith })
-
-pub part-up : (a : ℕ) (t : List ℕ) (tall : Bool) (side c : ℕ) → tall ≡ true → cellOf a t side c ≡ partOf a t tall side c
-unfolding partOf
-part-up a t true side c e = refl
-part-up a t false side c e = absurd (true≢false (sym e))
-
-pub part-across : (a : ℕ) (t : List ℕ) (tall : Bool) (side c : ℕ) → tall ≡ false → cellOf a t c side ≡ partOf a t tall side c
-unfolding partOf
-part-across a t true side c e = absurd (true≢false e)
-part-across a t false side c e = refl
-
--- The two parts of a line do not overflow 32 bits.
-pub line-fits : (a : ℕ) (t : List ℕ) (tall : Bool) (side x c : ℕ) {m n : ℕ} → Strip a t tall side x → 1 ≤ c → c < x → m ≡ partOf a t tall side c → n ≡ partOf a t tall side (rest x c) → m + n < 4_294_967_296
-line-fits a t tall side x c s p h e f =
+pub line-fits : (a : ℕ) (t : List ℕ) (w x c : ℕ) {m n : ℕ} → RowLines a t w x → 1 ≤ c → c < x → m ≡ cellOf a t c w → n ≡ cellOf a t (rest x c) w → m + n < 4_294_967_296
+line-fits a t w x c s p h e f =
     omega (arith, s .adds c (rest x c) (record { least = p; most = omega arith; leaves = refl }))

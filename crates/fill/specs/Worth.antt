@@ -1,7 +1,7 @@
 -- What an empty cell gets: "the largest of: 0; v of a piece with p ≤ u and q ≤ w; cell (c, w) plus cell (u−c, w) for c in P
 -- with c ≤ u/2; cell (u, d) plus cell (u, w−d) for d in Q with d ≤ w/2." Executable; `worthOf-worth` ties it to the candidates.
 use Prim.Native.Nat.{ℕ, suc, _+_, _/_, _≤_, _<_, max}
-use mathlib.Core.Bool.{Bool, true, false, cond}
+use mathlib.Core.Bool.{Bool, cond}
 use mathlib.Core.List.{List}
 use Rattle.laws.specs.Below.{bestBelow}
 use Rattle.cutting.specs.Dissection.{rest, Line}
@@ -25,14 +25,8 @@ unfoldable pub worthOf : Rows → (ℕ → ℕ → ℕ) → ℕ → ℕ → ℕ
 worthOf rows cell u w =
     max (fittingValue (rows .width) (rows .height) (rows .value) (rows .count) u w) (max (lineValue (rows .inP) (λ c. cell c w) u) (lineValue (rows .inQ) (λ d. cell u d) w))
 
--- The parts of a strip of the table: row `side` cut across (widths), or column `side` cut up (`tall`, heights).
-unfoldable pub partOf : ℕ → List ℕ → Bool → ℕ → ℕ → ℕ
-partOf a t false side c = cellOf a t c side
-partOf a t true side c = cellOf a t side c
-
--- A strip of length x whose cells lie in the table, and no two parts of a line overflow 32 bits.
-pub record Strip (a : ℕ) (t : List ℕ) (tall : Bool) (side x : ℕ) : Type 0 where
-  pub holds : Holds a (cond tall x side) t
-  pub wide : cond tall side x ≤ a
-  pub least : 1 ≤ side
-  pub adds : (c r : ℕ) → Line x c r → partOf a t tall side c + partOf a t tall side r < 4_294_967_296
+-- The first x cells of row w are in the table, and no two parts of a line across them overflow 32 bits.
+pub record RowLines (a : ℕ) (t : List ℕ) (w x : ℕ) : Type 0 where
+  pub holds : Holds a w t
+  pub wide : x ≤ a
+  pub adds : (c r : ℕ) → Line x c r → cellOf a t c w + cellOf a t r w < 4_294_967_296

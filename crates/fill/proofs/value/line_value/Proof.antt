@@ -4,7 +4,7 @@ use mathlib.Core.Bool.{false}
 use mathlib.Core.Path.{_≡_}
 use native.Mathlib.Omega.{arith}
 use lib.ListN.{getD}
-use Rattle.fill.specs.Worth.{partOf}
+use Rattle.cells.specs.Cells.{cellOf}
 use Rattle.fill.proofs.Steps.{linesUpTo, lines-none, lines-more, lines-end}
 use Rattle.fill.proofs.value.line_value.Statement.{statement}
 use Rattle.fill.proofs.value.line_value.Tie as tie
@@ -14,10 +14,10 @@ use Rattle.fill.proofs.value.larger.Reads as larger-reads
 use Rattle.fill.proofs.value.line_at.Reads as line-at-reads
 
 abbrev Inv-loop : tie.InvT-loop
-Inv-loop t a tall side x marks half best₀ c₀ best c = (c ≤ half) × (best ≡ linesUpTo (λ k. getD marks k false) (partOf a t tall side) x c)
+Inv-loop t a w x marks half best₀ c₀ best c = (c ≤ half) × (best ≡ linesUpTo (λ k. getD marks k false) (λ k. cellOf a t k w) x c)
 
 abbrev μ-loop : tie.MeasureT-loop
-μ-loop t a tall side x marks half best₀ c₀ best c = half - c
+μ-loop t a w x marks half best₀ c₀ best c = half - c
 
 loop-holds : tie.Need-loop-holds Inv-loop μ-loop
 loop-holds c = (omega arith, lines-none _ _ _)
@@ -26,7 +26,7 @@ add-c : tie.Need-add-c Inv-loop μ-loop
 add-c c = omega arith
 
 line-at-requires : tie.Need-line-at-requires Inv-loop μ-loop
-line-at-requires c κs = (c .before .before .before .pre .0, omega arith)
+line-at-requires c κs = (c .before .before .before .pre, omega arith)
 
 larger-requires : tie.Need-larger-requires Inv-loop μ-loop
 larger-requires c κs = omega arith

@@ -2,11 +2,14 @@
 use Prim.Native.Nat.{ℕ}
 use mathlib.Core.Bool.{cond}
 use mathlib.Core.List.{List}
+use lib.ListN.{length}
 use Rattle.job.specs.declared.Job.{Job}
 use Rattle.job.specs.Block.{fromBlock}
 use Rattle.desk.specs.declared.Asked.{Asked}
 use Rattle.desk.specs.Refusals.{jobRefusal}
 use Rattle.desk.specs.Asking.{asked, askedCells}
+use Rattle.plan.specs.declared.Planned.{Planned}
+use Rattle.plan.specs.Planning.{planned, plannedBytes}
 
 -- What a call gives with the job of a block, or else what it leaves where there is none.
 unfoldable pub ofBlock : {A : Type 0} → List ℕ → (Job → A) → A → A
@@ -18,3 +21,10 @@ askedBlock block t x y = ofBlock block (λ job. asked job t x y) (Asked.Refused 
 
 unfoldable pub askedBlockCells : List ℕ → List ℕ → ℕ → ℕ → List ℕ
 askedBlockCells block t x y = ofBlock block (λ job. askedCells job t x y) t
+
+-- Plan with the job of a block.
+unfoldable pub plannedBlock : List ℕ → List ℕ → ℕ → ℕ → List ℕ → Planned
+plannedBlock block t x y o = ofBlock block (λ job. planned job t x y (length o)) (Planned.Refused jobRefusal)
+
+unfoldable pub plannedBlockBytes : List ℕ → List ℕ → ℕ → ℕ → List ℕ → List ℕ
+plannedBlockBytes block t x y o = ofBlock block (λ job. plannedBytes job t x y o) o

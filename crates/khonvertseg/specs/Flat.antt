@@ -2,10 +2,13 @@
 use Rattle.desk.specs.declared.Changed.{Changed}
 use Rattle.desk.specs.declared.Asked.{Asked}
 use Rattle.desk.specs.Asking.{numbersOf}
+use Rattle.plan.specs.declared.Planned.{Planned}
+use Rattle.plan.specs.Planning.{numbersOf as plannedNumbers}
 use Rattle.checker.specs.declared.Checked.{Checked}
 use Rattle.checker.specs.Checked.{answer}
 use Rattle.khonvertseg.specs.declared.KhonChanged.{KhonChanged}
 use Rattle.khonvertseg.specs.declared.KhonAsked.{KhonAsked}
+use Rattle.khonvertseg.specs.declared.KhonPlanned.{KhonPlanned}
 use Rattle.khonvertseg.specs.declared.KhonChecked.{KhonChecked}
 
 -- khon_changed
@@ -15,6 +18,10 @@ flatChanged a = record { refusal = a .refusal; job = a .job }
 -- khon_asked
 abbrev pub flatAsked : Asked → KhonAsked
 flatAsked a = record { refusal = numbersOf a .refusal; value = numbersOf a .value; worked = numbersOf a .worked }
+
+-- khon_planned
+abbrev pub flatPlanned : Planned → KhonPlanned
+flatPlanned a = record { refusal = plannedNumbers a .refusal; length = plannedNumbers a .length; value = plannedNumbers a .value }
 
 -- khon_checked
 abbrev pub flatChecked : Checked → KhonChecked

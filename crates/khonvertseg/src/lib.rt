@@ -2,8 +2,8 @@
 ghost use mathlib.Core.Path.{_≡_};
 ghost use Rattle.desk.specs.Changing.{opened, openedCells, addedJob, addedCells, correctedJob, correctedCells, removedJob, removedCells};
 ghost use Rattle.checker.specs.Checked.{checked};
-ghost use Rattle.khonvertseg.specs.Flat.{flatChanged, flatAsked, flatChecked};
-ghost use Rattle.khonvertseg.specs.Block.{askedBlock, askedBlockCells};
+ghost use Rattle.khonvertseg.specs.Flat.{flatChanged, flatAsked, flatPlanned, flatChecked};
+ghost use Rattle.khonvertseg.specs.Block.{askedBlock, askedBlockCells, plannedBlock, plannedBlockBytes};
 use desk::change;
 use desk::question;
 use desk::refusal;
@@ -24,6 +24,14 @@ pub struct KhonAsked {
     pub refusal: u32,
     pub value: u32,
     pub worked: u32,
+}
+
+// khon_planned
+#[repr(C)]
+pub struct KhonPlanned {
+    pub refusal: u32,
+    pub length: u32,
+    pub value: u32,
 }
 
 // khon_checked
@@ -59,6 +67,23 @@ fn flat_asked(answer: desk::Asked) -> KhonAsked
             refusal: number,
             value: 0,
             worked: 0,
+        },
+    }
+}
+
+fn flat_planned(answer: plan::Planned) -> KhonPlanned
+    ensures { λ r. ⌜ r ≡ flatPlanned answer ⌝ }
+{
+    match answer {
+        plan::Planned::Written(length, value) => KhonPlanned {
+            refusal: 0,
+            length: length,
+            value: value,
+        },
+        plan::Planned::Refused(number) => KhonPlanned {
+            refusal: number,
+            length: 0,
+            value: 0,
         },
     }
 }
@@ -145,6 +170,33 @@ pub extern "C" fn khon_ask(block: &[u8], cells: &mut [u32], x: u32, y: u32) -> K
     ensures { λ _. ⌜ now (cells .exit) ≡ askedBlockCells (now (block .entry)) (now (cells .entry)) x y ⌝ }
 {
     flat_asked(ask_block(block, cells, x, y))
+}
+
+// What is no job block counts as refusal 1.
+fn plan_block(block: &[u8], cells: &[u32], x: u32, y: u32, file: &mut [u8]) -> plan::Planned
+    ensures { λ r. ⌜ r ≡ plannedBlock (now (block .entry)) (now (cells .entry)) x y (now (file .entry)) ⌝ }
+    ensures { λ _. ⌜ now (file .exit) ≡ plannedBlockBytes (now (block .entry)) (now (cells .entry)) x y (now (file .entry)) ⌝ }
+{
+    let blocked = from_block(block);
+    if !blocked.ok {
+        return plan::Planned::Refused(refusal::JOB);
+    }
+    let job = blocked.job;
+    plan::plan(job, cells, x, y, file)
+}
+
+#[no_mangle]
+pub extern "C" fn khon_plan(
+    block: &[u8],
+    cells: &[u32],
+    x: u32,
+    y: u32,
+    file: &mut [u8],
+) -> KhonPlanned
+    ensures { λ r. ⌜ r ≡ flatPlanned (plannedBlock (now (block .entry)) (now (cells .entry)) x y (now (file .entry))) ⌝ }
+    ensures { λ _. ⌜ now (file .exit) ≡ plannedBlockBytes (now (block .entry)) (now (cells .entry)) x y (now (file .entry)) ⌝ }
+{
+    flat_planned(plan_block(block, cells, x, y, file))
 }
 
 #[no_mangle]

@@ -23,7 +23,7 @@ use Rattle.tracer.proofs.Traced.{within-of, traced-own, traces-own}
 use Rattle.tracer.proofs.Wrote.{trim-cuts, trim-leaves}
 
 -- Both tests hold where they hold together.
-both : (b d : Bool) → (b && d) ≡ true → (b ≡ true) × (d ≡ true)
+pub both : (b d : Bool) → (b && d) ≡ true → (b ≡ true) × (d ≡ true)
 both true d e = (refl, e)
 both false d e = absurd (true≢false (sym e))
 
@@ -32,12 +32,12 @@ inner : (x c : ℕ) → 1 ≤ c → c ≤ x / 2 → Line x c (rest x c)
 inner x c h k = record { least = h; most = omega arith; leaves = refl }
 
 module _ (pieces : List Piece) where
-  earning-line : (tall : Bool) (c : ℕ) (s t : Tree) → earning pieces (lineOf tall c s t) ≡ earning pieces s + earning pieces t
+  pub earning-line : (tall : Bool) (c : ℕ) (s t : Tree) → earning pieces (lineOf tall c s t) ≡ earning pieces s + earning pieces t
   unfolding earning lineOf
   earning-line true c s t = refl
   earning-line false c s t = refl
 
-  earning-scrap : earning pieces Tree.scrapS ≡ 0
+  pub earning-scrap : earning pieces Tree.scrapS ≡ 0
   unfolding earning
   earning-scrap = refl
 
@@ -48,7 +48,7 @@ module _ (pieces : List Piece) where
   valid-line false {c} s w v u = Valid.lineV (inner (s .width) c (w .least) (w .most)) v u
 
   -- A trim loses nothing.
-  trim-earns : (tall : Bool) (size side : ℕ) (t : Tree) → earning pieces (trimTo tall size side t) ≡ earning pieces t
+  pub trim-earns : (tall : Bool) (size side : ℕ) (t : Tree) → earning pieces (trimTo tall size side t) ≡ earning pieces t
   trim-earns tall size side t =
       ⊎-elim (λ h. ap (earning pieces) (trim-leaves tall size side t h))
       (λ h. omega (arith, ap (earning pieces) (trim-cuts tall size side t h), earning-line tall size t Tree.scrapS, earning-scrap))

@@ -59,7 +59,7 @@ fn side_of(tall: bool, sides: Sides) -> usize
 }
 
 // The left or lower part of a line.
-fn near(tall: bool, at: usize, sides: Sides) -> Sides
+pub fn near(tall: bool, at: usize, sides: Sides) -> Sides
     ensures { λ r. ⌜ r ≡ near tall at sides ⌝ }
 {
     if tall {
@@ -75,7 +75,7 @@ fn near(tall: bool, at: usize, sides: Sides) -> Sides
 }
 
 // The right or upper part of a line: what the line leaves.
-fn far(tall: bool, at: usize, sides: Sides) -> Sides
+pub fn far(tall: bool, at: usize, sides: Sides) -> Sides
     requires { ⌜ at ≤ sideOf tall sides ⌝ }
     ensures { λ r. ⌜ r ≡ far tall at sides ⌝ }
 {
@@ -92,7 +92,7 @@ fn far(tall: bool, at: usize, sides: Sides) -> Sides
 }
 
 // The number in the cell of a rectangle.
-fn number_of(cells: &[u32], a: usize, sides: Sides) -> usize
+pub fn number_of(cells: &[u32], a: usize, sides: Sides) -> usize
     requires { ⌜ OnTable a (now cells) sides ⌝ }
     ensures { λ r. ⌜ r ≡ numberOf (cellOf a (now (cells .entry))) sides ⌝ }
     ensures { λ r. ⌜ r ≤ empty ⌝ }

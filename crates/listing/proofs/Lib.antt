@@ -1,0 +1,2 @@
+-- Laws of the listing.
+pub mod Texts

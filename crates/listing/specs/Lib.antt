@@ -1,0 +1,3 @@
+-- What the program prints: its lines, and the listing of a tree.
+pub mod Line
+pub mod Listing

@@ -6,3 +6,4 @@ pub mod Demands
 pub mod Agree
 pub mod Sheets
 pub mod Impostors
+pub mod Plans

@@ -52,3 +52,11 @@ OnSheet job u w = Inside u w (job .width) (job .height)
 -- v is the best value of u by w "for the pieces as they stand".
 abbrev pub BestFor : Job → ℕ → ℕ → ℕ → Type 0
 BestFor job u w v = Best (Lays (piecesOf job)) u w v
+
+-- "Once asked, with no accepted change since": an answered question covered x by y, and no change was accepted after it.
+unfoldable pub AskedSince : {job : Job} {t : List ℕ} → History job t → ℕ → ℕ → Type 0
+AskedSince (opening a b t p e) x y = ⊥
+AskedSince (adding {r = r} h piece p) x y = AskedSince h x y × (r .refusal ≡ 0 → ⊥)
+AskedSince (correcting {r = r} h k piece p) x y = AskedSince h x y × (r .refusal ≡ 0 → ⊥)
+AskedSince (removing {r = r} h k p) x y = AskedSince h x y × (r .refusal ≡ 0 → ⊥)
+AskedSince (asking {r = r} h u w p) x y = AskedSince h x y ⊎ ((numbersOf r .refusal ≡ 0) × Fits x y u w)

@@ -6,3 +6,4 @@ pub mod Answers
 pub mod Filing
 pub mod Promise
 pub mod Best
+pub mod Sheets

@@ -2,7 +2,7 @@
 -- "Entries beyond a·b are no cells of the sheet": they are never read.
 use Prim.Native.Nat.{ℕ, zero, suc, _*_, _≤_, _<_}
 use mathlib.Core.Bool.{Bool, true, false, cond, _&&_}
-use mathlib.Core.List.{List}
+use mathlib.Core.List.{List, []}
 use mathlib.Core.Path.{_≡_, refl, sym, ap, ap₂, _∙_, subst}
 use native.Mathlib.Omega.{arith}
 use lib.ListN.{length}
@@ -23,10 +23,18 @@ use Rattle.fill.proofs.Growing.{filled-length}
 use Rattle.job.specs.declared.Piece.{Piece as Record}
 use Rattle.job.specs.declared.Job.{Job}
 use Rattle.job.specs.Range.{jobInRange, within}
-use Rattle.desk.specs.Refusals.{orElse, accepted, area, jobRefused, addRefused, removeRefused, correctRefused, askRefused}
+use Rattle.desk.specs.Refusals.{orElse, accepted, area, jobRefused, addRefused, removeRefused, correctRefused, askRefused, JobRefusal}
 use Rattle.desk.specs.Changing.{changed}
 use Rattle.desk.specs.Asking.{answerWith, jobRows, filledFor, asked, askedCells}
-use Rattle.desk.proofs.Exactly.{inside-says}
+use Rattle.desk.proofs.Exactly.{inside-says, job-refusal, usable}
+use Rattle.tracer.specs.Choice.{by}
+use Rattle.tracer.proofs.Depth.{Real}
+use Rattle.tracer.proofs.Same.{SameCells, traced-same, traces-same}
+use Rattle.checker.specs.PlanFile.{planBytes}
+use Rattle.plan.specs.File.{planFile, sheetOf}
+use Rattle.plan.specs.Refusals.{boxRefused, fileRefused, planRefused, PlanRefusal}
+use Rattle.plan.proofs.Exactly.{plan-only}
+use Rattle.demands.specs.Script.{Said, emptyCells}
 
 -- Both tables have the cells of a sheet a by b, with the same numbers.
 pub record Agree (a b : ℕ) (t s : List ℕ) : Type 0 where
@@ -122,3 +130,57 @@ module _ (job : Job) (t s : List ℕ) (x y : ℕ) (g : Agree (job .width) (job .
           ((λ j. answerWith (e j) (after zero i .cells x y i j) (agree-empties (job .width) (job .height) x y t s (i .widthMost) (i .heightMost) g j)), subst (λ (n : ℕ). Agree (job .width) (job .height) (accepted n (filledFor job t x y) t) (accepted (refusal true s) (filledFor job s x y) s)) (sym e) (after (refusal true s) i))
       by false p =
           subst (λ (n : ℕ). (answerWith (orElse n 3) (value t) (worked t) ≡ answerWith (refusal false s) (value s) (worked s)) × Agree (job .width) (job .height) (accepted (orElse n 3) (filledFor job t x y) t) (accepted (refusal false s) (filledFor job s x y) s)) (sym (agree-refused job t s g)) (outside (jobRefused job s))
+
+pub agree-any-empty : (a b x y : ℕ) (t s : List ℕ) → x ≤ a → y ≤ b → Agree a b t s → anyInBox x y (isEmpty a t) ≡ anyInBox x y (isEmpty a s)
+unfolding isEmpty
+agree-any-empty a b x y t s h k g = anyInBox-same x y _ _ (λ u w i. ap (λ (v : ℕ). eqb v empty) (g .cells u w (omega arith)))
+
+-- What a plan says: its number, its value and its file.
+abbrev pub planSays : Job → ℕ → ℕ → List ℕ → ℕ → Said
+planSays job x y l k = record { refusal = k; value = accepted k (cellOf (job .width) l x y) 0; worked = 0; empties = emptyCells job l; file = accepted k (planFile job l x y) [] }
+
+-- A plan from either table: the same refusal, and, where it is none, the same file and value.
+module _ (job : Job) (t s : List ℕ) (x y room : ℕ) (g : Agree (job .width) (job .height) t s) where
+  abbrev plan-says : List ℕ → ℕ → Said
+  plan-says l k = planSays job x y l k
+
+  module _ (i : Inside x y (job .width) (job .height)) where
+    same-cells : SameCells (cellOf (job .width) t) (cellOf (job .width) s) (by x y)
+    same-cells u w j = g .cells u w (omega arith)
+
+    real : Real (by x y)
+    real = record { wide = i .widthLeast; high = i .heightLeast }
+
+    same-file : planFile job t x y ≡ planFile job s x y
+    same-file = ap (planBytes [] (sheetOf job x y)) (traced-same (jobRows job) _ _ (by x y) real same-cells)
+
+    same-refusal : planRefused job t x y room ≡ planRefused job s x y room
+    unfolding planRefused boxRefused fileRefused
+    same-refusal =
+        rw (agree-refused job t s g, agree-any-empty (job .width) (job .height) x y t s (i .widthMost) (i .heightMost) g, agree-exceeds (job .width) (job .height) x y t s (i .widthMost) (i .heightMost) g, traces-same (jobRows job) _ _ (by x y) real same-cells, same-file)
+
+    inside-says-same : plan-says t (planRefused job t x y room) ≡ plan-says s (planRefused job s x y room)
+    inside-says-same =
+        λ j. record { refusal = same-refusal j; value = accepted (same-refusal j) (g .cells x y i j) 0; worked = 0; empties = agree-empties (job .width) (job .height) (job .width) (job .height) t s (omega arith) (omega arith) g j; file = accepted (same-refusal j) (same-file j) [] }
+
+  -- A refused plan says its number and nothing more.
+  both-refused : (m : ℕ) → suc m ≡ planRefused job t x y room → suc m ≡ planRefused job s x y room → plan-says t (planRefused job t x y room) ≡ plan-says s (planRefused job s x y room)
+  unfolding accepted
+  both-refused m e f =
+      ap (plan-says t) (sym e)
+      ∙ ((λ j. record { refusal = suc m; value = 0; worked = 0; empties = agree-empties (job .width) (job .height) (job .width) (job .height) t s (omega arith) (omega arith) g j; file = [] })
+      ∙ ap (plan-says s) f)
+
+  outside : (Inside x y (job .width) (job .height) → ⊥) → plan-says t (planRefused job t x y room) ≡ plan-says s (planRefused job s x y room)
+  outside n = go (jobRefused job t) (job-refusal job t) (subst (JobRefusal job s) (sym (agree-refused job t s g)) (job-refusal job s))
+    where
+      go : (k : ℕ) → JobRefusal job t k → JobRefusal job s k → plan-says t (planRefused job t x y room) ≡ plan-says s (planRefused job s x y room)
+      go (suc k) j l = both-refused k (plan-only job t x y room (PlanRefusal.job j)) (plan-only job s x y room (PlanRefusal.job l))
+      go zero j l = both-refused 2 (plan-only job t x y room (PlanRefusal.question (usable job t j refl) n)) (plan-only job s x y room (PlanRefusal.question (usable job s l refl) n))
+
+  pub plan-agree : planSays job x y t (planRefused job t x y room) ≡ planSays job x y s (planRefused job s x y room)
+  plan-agree = by-inside (within x (job .width) && within y (job .height)) (inside-says x y (job .width) (job .height))
+    where
+      by-inside : (r : Bool) → Says r (Inside x y (job .width) (job .height)) → plan-says t (planRefused job t x y room) ≡ plan-says s (planRefused job s x y room)
+      by-inside true p = inside-says-same (p .means refl)
+      by-inside false p = outside (says-false p refl)

@@ -46,10 +46,10 @@ writing-nothing-breaks {job} {t} h x y i u w j e p =
     demand-3-filled (History.asking h x y p) u w (omega arith) .1 (inr (demand-2-answered h x y i p .0, omega arith)) e
 
 -- "one that works on the first question and repeats itself later": after K2's correction the answer is 6 and no longer 8.
-pub repeating-breaks : (t t' : List ℕ) (r : Changed) (sayings : List Said) → OpenPromise 3 3 t r t' → r .refusal ≡ 0 → Runs (r .job) t' (K1K2 .steps) sayings → getD sayings 2 (said 0 0 0 0) .value ≡ getD sayings 4 (said 0 0 0 0) .value → ⊥
+pub repeating-breaks : (t t' : List ℕ) (r : Changed) (sayings : List Said) → OpenPromise 3 3 t r t' → r .refusal ≡ 0 → Runs (r .job) t' (K1K2 .steps) sayings → getD sayings 2 (said 0 0 0 0) .value ≡ getD sayings 5 (said 0 0 0 0) .value → ⊥
 repeating-breaks t t' r sayings p e runs same =
     let k = sheets-kept .0 t t' r sayings p e runs in
-    let z : _≡_ {A = ℕ} 8 6 = sym (ap (λ (l : List Said). getD l 2 (said 0 0 0 0) .value) k) ∙ (same ∙ ap (λ (l : List Said). getD l 4 (said 0 0 0 0) .value) k) in
+    let z : _≡_ {A = ℕ} 8 6 = sym (ap (λ (l : List Said). getD l 2 (said 0 0 0 0) .value) k) ∙ (same ∙ ap (λ (l : List Said). getD l 5 (said 0 0 0 0) .value) k) in
     omega arith
 
 -- ".. or empties all at a change": a filled cell in which neither the old nor the new size fits stays filled.

@@ -1,10 +1,11 @@
 -- K1 to K8 through the calls: what any library that keeps the promises says.
-use Prim.Native.Nat.{ℕ, zero, suc, _*_, _≤_, _<_}
+use Prim.Native.Nat.{ℕ, zero, suc, _+_, _*_, _≤_, _<_}
 use mathlib.Core.Bool.{_||_}
 use mathlib.Core.List.{List, [], _∷_}
 use mathlib.Core.Path.{_≡_, refl, sym, ap, ap₂, _∙_, subst}
 use native.Mathlib.Omega.{arith}
-use lib.ListN.{length, getD, replicate, length-replicate}
+use native.Mathlib.Nat.{zero-add}
+use lib.ListN.{length, getD, take, replicate, length-replicate}
 use Rattle.cells.proofs.Emptied.{emptied-whole, emptied-length}
 use Rattle.laws.specs.Below.{allBelow, anyBelow, bestBelow, sumBelow}
 use Rattle.laws.specs.ByIndex.{byIndex}
@@ -30,8 +31,28 @@ use Rattle.desk.proofs.Answers.{given}
 use Rattle.desk.proofs.Granted.{open-granted}
 use Rattle.desk.specs.Refusals.{orElse, accepted, jobRefused, askRefused, openRefused, addRefused, removeRefused, correctRefused}
 use Rattle.desk.specs.Asking.{numbersOf, asked, askedCells, filledFor, jobRows, rowsOfPieces}
-use Rattle.demands.proofs.Agree.{Agree, agree-refused, agree-empties, change-agree, ask-agree}
-use Rattle.demands.specs.Script.{Step, Said, said, saidOfChange, saidOfAnswer, Runs, Sheet, sheets}
+use Rattle.demands.proofs.Agree.{Agree, agree-refused, agree-empties, change-agree, ask-agree, planSays, plan-agree}
+use Rattle.laws.specs.Put.{put}
+use Rattle.laws.proofs.Put.{put-front}
+use Rattle.laws.specs.First.{firstBelow}
+use Rattle.fields.specs.Number.{bytes2, bytes4, number2Of, number4Of}
+use Rattle.fields.specs.Sum.{runningSum}
+use Rattle.job.specs.Block.{block, bytesOfHead, bytesOfPieces, bytesOfPiece, pieceFrom, jobIn, blockShape, fromBlock}
+use Rattle.cutting.specs.Piece.{pieceAt}
+use Rattle.cutting.specs.Tree.{earning}
+use Rattle.nodes.specs.Encoding.{encode, node}
+use Rattle.nodes.specs.Reader.{scrapNode, isPiece, pieceNode, isInside, verticalNode, horizontalNode, letterNode, nodeAt, joined, after, partBy, partWithin, partAt}
+use Rattle.tracer.specs.Choice.{sideOf, near, far, suits, firstPiece, addsTo, leastLine, chooseFor, choose}
+use Rattle.tracer.specs.Traced.{lineOf, trimTo, trimmed, treeBy, tracedWithin, traced, tracesBy, tracesWithin, traces}
+use Rattle.checker.specs.PlanFile.{planBytes, summed, body, pointers}
+use Rattle.checker.specs.Fields.{blockDistance, nodesDistance, statedValue, statedSum, summedBytes, blockBytes}
+use Rattle.checker.specs.Checked.{answer, checked, framed, sumAgrees, agreed, nodesRead, judged, judgedJob}
+use Rattle.plan.specs.declared.Planned.{Planned}
+use Rattle.plan.specs.File.{planFile}
+use Rattle.plan.specs.Refusals.{planRefused, boxRefused, fileRefused}
+use Rattle.plan.specs.Planning.{answerWith as plansAnswer, planned, plannedBytes}
+use Rattle.plan.specs.Promise.{PlanPromise}
+use Rattle.demands.specs.Script.{Step, Said, said, emptyCells, saidOfChange, saidOfAnswer, saidOfPlan, saidOfCheck, Runs, Sheet, sheets}
 
 -- Each change of both tables.
 add-agree : (job : Job) (t s : List ℕ) (piece : Record) → Agree (job .width) (job .height) t s → (addedJob job t piece ≡ addedJob job s piece) × Agree (addedJob job s piece .job .width) (addedJob job s piece .job .height) (addedCells job t piece) (addedCells job s piece)
@@ -61,6 +82,23 @@ run job t (Step.add piece ∷ steps) = saidOfChange (addedJob job t piece) (adde
 run job t (Step.correct k piece ∷ steps) = saidOfChange (correctedJob job t k piece) (correctedCells job t k piece) ∷ run (correctedJob job t k piece .job) (correctedCells job t k piece) steps
 run job t (Step.remove k ∷ steps) = saidOfChange (removedJob job t k) (removedCells job t k) ∷ run (removedJob job t k .job) (removedCells job t k) steps
 run job t (Step.ask x y ∷ steps) = saidOfAnswer job (asked job t x y) (askedCells job t x y) ∷ run job (askedCells job t x y) steps
+run job t (Step.plan x y room ∷ steps) = planSays job x y t (planRefused job t x y room) ∷ run job t steps
+run job t (Step.check file ∷ steps) = saidOfCheck job t (checked file) ∷ run job t steps
+
+-- What a plan that keeps its promise says.
+plan-said : (job : Job) (t : List ℕ) (x y room : ℕ) (o : List ℕ) {r : Planned} {o' : List ℕ} → length o ≡ room → PlanPromise job t x y o r o' → saidOfPlan job t r o' ≡ planSays job x y t (planRefused job t x y room)
+unfolding planned plannedBytes accepted
+plan-said job t x y room o {r} {o'} e p = ap₂ (saidOfPlan job t) (p .0) (p .1) ∙ by (planRefused job t x y (length o)) ∙ ap (λ (n : ℕ). planSays job x y t (planRefused job t x y n)) e
+  where
+    file : List ℕ
+    file = planFile job t x y
+
+    whole : (n : ℕ) → take n (put o 0 file) ≡ take (0 + n) (put o 0 file)
+    whole n = ap (λ (m : ℕ). take m (put o 0 file)) (sym (zero-add n))
+
+    by : (k : ℕ) → saidOfPlan job t (plansAnswer k (length file) (cellOf (job .width) t x y)) (accepted k (put o 0 file) o) ≡ planSays job x y t k
+    by zero = ap (λ (l : List ℕ). record { refusal = 0; value = cellOf (job .width) t x y; worked = 0; empties = emptyCells job t; file = l }) (whole (length file) ∙ put-front o 0 file (omega arith))
+    by (suc k) = refl
 
 -- A change, and what follows it.
 follow : {r c : Changed} {t' l : List ℕ} {sayings : List Said} (steps : List Step) → r ≡ c → t' ≡ l → sayings ≡ run (r .job) t' steps → saidOfChange r t' ∷ sayings ≡ saidOfChange c l ∷ run (c .job) l steps
@@ -74,6 +112,8 @@ runs-run (Runs.correct {steps = steps} k piece p rest) = follow steps (p .0) (p 
 runs-run (Runs.remove {steps = steps} k p rest) = follow steps (p .0) (p .1) (runs-run rest)
 runs-run (Runs.ask {job = job} {t' = t'} {r = r} {steps = steps} x y p rest) =
     ap (λ (m : List Said). saidOfAnswer job r t' ∷ m) (runs-run rest) ∙ (λ i. saidOfAnswer job (p .0 i) (p .1 i) ∷ run job (p .1 i) steps)
+runs-run (Runs.plan {job = job} {t = t} x y room o e p rest) = ap₂ _∷_ (plan-said job t x y room o e p) (runs-run rest)
+runs-run (Runs.check {job = job} {t = t} file p rest) = ap₂ _∷_ (ap (saidOfCheck job t) p) (runs-run rest)
 
 -- Tables that agree on the sheet hear the same.
 after-change : (c d : Changed) (t s : List ℕ) (steps : List Step) → c ≡ d → Agree (d .job .width) (d .job .height) t s → run (d .job) t steps ≡ run (d .job) s steps → saidOfChange c t ∷ run (c .job) t steps ≡ saidOfChange d s ∷ run (d .job) s steps
@@ -91,6 +131,9 @@ run-agree (Step.ask x y ∷ steps) job t s g =
     let a = ask-agree job t s x y g in
     (λ i. saidOfAnswer job (a .0 i) (askedCells job t x y) ∷ run job (askedCells job t x y) steps)
     ∙ ap₂ (λ (n : ℕ) (l : List Said). said (numbersOf (asked job s x y) .refusal) (numbersOf (asked job s x y) .value) (numbersOf (asked job s x y) .worked) n ∷ l) (agree-empties (job .width) (job .height) (job .width) (job .height) _ _ (omega arith) (omega arith) (a .1)) (run-agree steps job _ _ (a .1))
+run-agree (Step.plan x y room ∷ steps) job t s g = ap₂ _∷_ (plan-agree job t s x y room g) (run-agree steps job t s g)
+run-agree (Step.check file ∷ steps) job t s g =
+    ap₂ (λ (n : ℕ) (l : List Said). said (answer (checked file) .number) (answer (checked file) .value) 0 n ∷ l) (agree-empties (job .width) (job .height) (job .width) (job .height) t s (omega arith) (omega arith) g) (run-agree steps job t s g)
 
 -- A fresh sheet of empty cells.
 abbrev blank : ℕ → ℕ → List ℕ
@@ -144,7 +187,7 @@ abbrev Computes : Sheet → Type 0
 Computes s = run (jobOf (s .width) (s .height) []) (blank (s .width) (s .height)) (s .steps) ≡ s .sayings
 
 computes : Each Computes sheets
-unfolding run addedJob addedCells correctedJob correctedCells askedCells asked addRefused correctRefused removeRefused askRefused jobRefused orElse accepted jobInRange piecesInRange pieceInRange allBelow withAdded withCorrected jobOf zeroJob piecesOf added corrected byIndex emptiedSize emptied emptiedWhere redrawn fits cellOf place recordOfPiece filledFor filled final finalWithin worthOf fittingValue lineValue lineAt jobRows rowsOfPieces rowsOf rowOf marksOf isPoint reaches reachesUpTo someMakes makes anyBelow bestBelow sumBelow countInBox countInRow isEmpty anyInBox anyInRow exceeds tooMuch
+unfolding run addedJob addedCells correctedJob correctedCells askedCells asked addRefused correctRefused removeRefused askRefused jobRefused orElse accepted jobInRange piecesInRange pieceInRange allBelow withAdded withCorrected jobOf zeroJob piecesOf added corrected byIndex emptiedSize emptied emptiedWhere redrawn fits cellOf place recordOfPiece filledFor filled final finalWithin worthOf fittingValue lineValue lineAt jobRows rowsOfPieces rowsOf rowOf marksOf isPoint reaches reachesUpTo someMakes makes anyBelow bestBelow sumBelow countInBox countInRow isEmpty anyInBox anyInRow exceeds tooMuch planRefused boxRefused fileRefused planBytes summed body pointers block bytesOfHead bytesOfPieces bytesOfPiece bytes2 bytes4 encode node runningSum earning pieceAt firstBelow sideOf near far suits firstPiece addsTo leastLine Rattle.tracer.specs.Choice.orElse chooseFor choose lineOf trimTo trimmed treeBy tracedWithin traced tracesBy tracesWithin traces checked framed sumAgrees agreed nodesRead judged judgedJob blockDistance nodesDistance statedValue statedSum summedBytes blockBytes number2Of number4Of pieceFrom jobIn blockShape fromBlock scrapNode isPiece pieceNode isInside verticalNode horizontalNode letterNode nodeAt joined after partBy partWithin partAt
 computes = (refl, (refl, (refl, (refl, (refl, (refl, (refl, tt)))))))
 
 each-kept : (l : List Sheet) → Each Computes l → Each Kept l

@@ -11,3 +11,4 @@ pub mod Valid
 pub mod Best
 pub mod Rows
 pub mod Sheets
+pub mod Same

@@ -95,7 +95,7 @@ unit s r = mul-le-mul {n₁ = 1} {m₁ = 1} (r .wide) (r .high)
 
 module _ (rows : Rows) (cell : ℕ → ℕ → ℕ) where
   -- The tree and the test look at the chosen parts alone, and these are smaller.
-  tree-parts : (g h : Sides → Tree) (s : Sides) → Real s → ((u : Sides) → Part u s → g u ≡ h u) → treeBy g rows s (choose rows cell s) ≡ treeBy h rows s (choose rows cell s)
+  pub tree-parts : (g h : Sides → Tree) (s : Sides) → Real s → ((u : Sides) → Part u s → g u ≡ h u) → treeBy g rows s (choose rows cell s) ≡ treeBy h rows s (choose rows cell s)
   unfolding treeBy Fact
   tree-parts g h s r same = go (choose rows cell s) (fact rows cell s refl)
     where
@@ -107,7 +107,7 @@ module _ (rows : Rows) (cell : ℕ → ℕ → ℕ) where
       go (Choice.Trim k) f = refl
       go Choice.Nothing f = refl
 
-  test-parts : (g h : Sides → Bool) (s : Sides) → Real s → ((u : Sides) → Part u s → g u ≡ h u) → tracesBy g s (choose rows cell s) ≡ tracesBy h s (choose rows cell s)
+  pub test-parts : (g h : Sides → Bool) (s : Sides) → Real s → ((u : Sides) → Part u s → g u ≡ h u) → tracesBy g s (choose rows cell s) ≡ tracesBy h s (choose rows cell s)
   unfolding tracesBy Fact
   test-parts g h s r same = go (choose rows cell s) (fact rows cell s refl)
     where

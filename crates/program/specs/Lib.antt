@@ -1,0 +1,3 @@
+-- What the program prints for a job block.
+pub mod Entry
+pub mod Program

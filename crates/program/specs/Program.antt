@@ -1,0 +1,53 @@
+-- "It reads one job block from standard input, adds its pieces, asks and plans the whole stock, and prints."
+use Prim.Native.Nat.{ℕ, zero, suc}
+use mathlib.Core.Bool.{cond}
+use mathlib.Core.List.{List, _++_}
+use Rattle.cells.specs.Cells.{cellOf}
+use Rattle.cells.specs.Box.{isEmpty, countInBox}
+use Rattle.job.specs.declared.Job.{Job}
+use Rattle.job.specs.Job.{piecesOf}
+use Rattle.job.specs.Block.{fromBlock}
+use Rattle.desk.specs.declared.Changed.{Changed}
+use Rattle.desk.specs.Refusals.{jobRefusal, askRefused}
+use Rattle.desk.specs.Asking.{filledFor}
+use Rattle.plan.specs.File.{treeFor}
+use Rattle.plan.specs.Refusals.{planRefused}
+use Rattle.listing.specs.Line.{headText, refusedText}
+use Rattle.listing.specs.Listing.{listing}
+use Rattle.program.specs.Entry.{entered}
+
+-- "A refusal prints only "refused", a space and the number."
+unfoldable pub textOr : ℕ → List ℕ → List ℕ
+textOr zero text = text
+textOr (suc k) text = refusedText (suc k)
+
+-- "one line per node in file order", for the tree that plan writes.
+unfoldable pub treeLines : Job → List ℕ → List ℕ
+treeLines job t = listing (piecesOf job) 1 (treeFor job t (job .width) (job .height)) (job .width) (job .height)
+
+-- "First line: value, and cells worked out. Then one line per node".
+unfoldable pub planText : Job → List ℕ → ℕ → ℕ → List ℕ
+planText job t value worked = headText value worked ++ treeLines job t
+
+-- "plans the whole stock", into a buffer with this room.
+unfoldable pub plannedText : Job → List ℕ → ℕ → ℕ → ℕ → List ℕ
+plannedText job t room value worked = textOr (planRefused job t (job .width) (job .height) room) (planText job t value worked)
+
+-- "asks .. the whole stock"
+unfoldable pub askedText : Job → List ℕ → ℕ → List ℕ
+askedText job t room =
+    let a = job .width in
+    let b = job .height in
+    let after = filledFor job t a b in
+    textOr (askRefused job t a b) (plannedText job after room (cellOf a after a b) (countInBox a b (isEmpty a t)))
+
+-- "adds its pieces"
+unfoldable pub enteredText : Changed → List ℕ → ℕ → List ℕ
+enteredText answer t room = textOr (answer .refusal) (askedText (answer .job) t room)
+
+unfoldable pub jobText : Job → List ℕ → ℕ → List ℕ
+jobText from t room = enteredText (entered from t .answer) (entered from t .cells) room
+
+-- "A block shorter than 6 bytes, or whose length isn't 6 + 6n, or whose n is above 64, counts as refusal 1, in the program too."
+unfoldable pub programText : List ℕ → List ℕ → ℕ → List ℕ
+programText block t room = cond (fromBlock block .ok) (jobText (fromBlock block .job) t room) (refusedText jobRefusal)

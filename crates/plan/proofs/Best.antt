@@ -5,7 +5,7 @@ use mathlib.Core.Bool.{true}
 use mathlib.Core.List.{List}
 use mathlib.Core.Path.{_≡_, sym, ap, _∙_, subst}
 use native.Mathlib.Omega.{arith}
-use lib.ListN.{length, take}
+use lib.ListN.{length}
 use Rattle.cutting.specs.Piece.{Inside, Lays}
 use Rattle.cutting.specs.Dissection.{Best}
 use Rattle.cutting.proofs.Bound.{best-bound}
@@ -25,28 +25,15 @@ use Rattle.plan.specs.File.{tracesFor, planFile}
 use Rattle.plan.specs.Refusals.{planRefused, Readable, PlanRefusal}
 use Rattle.plan.specs.Planning.{answerWith, planned}
 use Rattle.plan.specs.Promise.{PlanPromise}
-use Rattle.plan.specs.Accepted.{AcceptedAs}
+use Rattle.plan.specs.Best.{HoldsBest}
+pub use Rattle.plan.specs.Best.{PlansBest}
 use Rattle.plan.proofs.Tracing.{rows-hold-pieces, rows-mark-points}
 use Rattle.plan.proofs.Exactly.{empty-says, plan-only}
 use Rattle.plan.proofs.Promise.{plan-checked}
 
--- v is the best value of u by w for the job's pieces.
-abbrev pub BestOf : Job → ℕ → ℕ → ℕ → Type 0
-BestOf job u w v = Best (Lays (piecesOf job)) u w v
-
--- Every filled cell of the sheet holds its best value.
-abbrev pub HoldsBest : Job → List ℕ → Type 0
-HoldsBest job t = (u w : ℕ) → Inside u w (job .width) (job .height) → (cellOf (job .width) t u w ≡ empty → ⊥) → BestOf job u w (cellOf (job .width) t u w)
-
--- Plan answers the file's length and the cell's value, the file is in the buffer p, check accepts it with that value, and it is the best value.
-pub record PlansBest (job : Job) (t : List ℕ) (x y : ℕ) (r : Planned) (p : List ℕ) : Type 0 where
-  pub written : r ≡ Written (length (planFile job t x y)) (cellOf (job .width) t x y)
-  pub checked : AcceptedAs (take (length (planFile job t x y)) p) x y (cellOf (job .width) t x y)
-  pub best : BestOf job x y (cellOf (job .width) t x y)
-
 module _ (job : Job) (t : List ℕ) (usable : Usable job t) (best : HoldsBest job t) (x y : ℕ) where
   module _ (i : Inside x y (job .width) (job .height)) (full : Full (job .width) t x y) where
-    box-best : (u w : ℕ) → Inside u w x y → BestOf job u w (cellOf (job .width) t u w)
+    box-best : (u w : ℕ) → Inside u w x y → Best (Lays (piecesOf job)) u w (cellOf (job .width) t u w)
     box-best u w j = best u w (omega arith) (full u w j)
 
     -- A full box can be read, and rule 6 strikes nowhere in it.

@@ -4,3 +4,4 @@ pub mod Refusals
 pub mod Planning
 pub mod Promise
 pub mod Accepted
+pub mod Best

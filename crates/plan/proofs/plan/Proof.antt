@@ -18,20 +18,30 @@ wide-requires : tie.Need-wide-requires
 wide-requires c κs = search needs
 
 cell-requires : tie.Need-cell-requires
-cell-requires c κs = cell-there _ _ _ _ (plan-granted _ _ _ _ (c .before .before .before .before .before .args .o .now) (c .before .before .plan-refused .ensures) (c .before .if1 .left) .readable) (c .wide .ensures)
+cell-requires c κs =
+    let start = c .before .before .before .before .before in
+    cell-there _ _ _ _ (plan-granted _ _ _ _ (start .args .o .now) (c .before .before .plan-refused .ensures) (c .before .if1 .left) .readable) (c .wide .ensures)
 
 write-file-requires : tie.Need-write-file-requires
-write-file-requires c κs = (plan-granted _ _ _ _ _ (c .before .before .before .before .plan-refused .ensures) (c .before .before .before .if1 .left), cell-read (c .before .before .before .before .before .before .before .args .job) _ _ _ (c .before .cell .ensures) (c .before .before .wide .ensures))
+write-file-requires c κs =
+    let refusal = c .before .before .before .before in
+    let start = refusal .before .before .before in
+    (plan-granted _ _ _ _ _ (refusal .plan-refused .ensures) (c .before .before .before .if1 .left), cell-read (start .args .job) _ _ _ (c .before .cell .ensures) (c .before .before .wide .ensures))
 
 cast-t15 : tie.Need-cast-t15
-cast-t15 c = omega (arith, length-fits _ _ _ _ (plan-granted _ _ _ _ _ (c .before .before .before .before .before .before .before .plan-refused .ensures) (c .before .before .before .before .before .before .if1 .left)) (c .before .before .write-file .ensures))
+cast-t15 c =
+    let passed = c .before .before .before .before .before .before in
+    omega (arith, length-fits _ _ _ _ (plan-granted _ _ _ _ _ (passed .before .plan-refused .ensures) (passed .if1 .left)) (c .before .before .write-file .ensures))
 
 same-length : tie.Need-same-length
 same-length c = search needs
 
 returns-2 : tie.Need-returns-2
 unfolding planned plannedBytes
-returns-2 c = written-answer (c .before .before .before .before .before .before .before .plan-refused .ensures) (c .before .before .before .before .before .before .if1 .left) (c .before .before .write-file .ensures) (cell-read (c .before .before .before .before .before .before .before .before .before .before .args .job) _ _ _ (c .before .before .before .before .cell .ensures) (c .before .before .before .before .before .wide .ensures))
+returns-2 c =
+    let passed = c .before .before .before .before .before .before in
+    let start = passed .before .before .before .before in
+    written-answer (passed .before .plan-refused .ensures) (passed .if1 .left) (c .before .before .write-file .ensures) (cell-read (start .args .job) _ _ _ (c .before .before .before .before .cell .ensures) (c .before .before .before .before .before .wide .ensures))
 
 pub plan-spec : {M : Type 1} → statement M
 plan-spec =

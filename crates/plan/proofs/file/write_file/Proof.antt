@@ -21,25 +21,47 @@ put-block-requires : tie.Need-put-block-requires
 put-block-requires c κs = block-fits _ _ _ _ _ (c .before .before .before .before .before .pre .0)
 
 write-for-requires : tie.Need-write-for-requires
-write-for-requires c κs = let r = c .before .before .before .before .before .before .before .before .before .pre .0 in ((r .readable .usable, r .readable .inside), nodes-fit _ _ _ _ _ r (c .before .before .before .put-block .ensures) (c .before .before .before .before .before .before .wide .ensures) (c .before .before .before .before .before .block-length .ensures))
+write-for-requires c κs =
+    let block = c .before .before .before in
+    let start = block .before .before .before .before .before .before in
+    let ready = start .pre .0 in
+    ((ready .readable .usable, ready .readable .inside), nodes-fit _ _ _ _ _ ready (block .put-block .ensures) (block .before .before .before .wide .ensures) (block .before .before .block-length .ensures))
 
 sub-put-pointers : tie.Need-sub-put-pointers
 sub-put-pointers c = search needs
 
 put-pointers-requires : tie.Need-put-pointers-requires
-put-pointers-requires c κs = pointers-fit _ _ _ _ _ (c .before .before .before .before .before .before .before .before .before .before .before .before .before .pre .0) (c .before .before .before .before .before .before .before .put-block .ensures) (c .before .before .before .before .before .before .before .before .before .before .wide .ensures) (c .before .before .before .before .before .before .before .before .before .block-length .ensures) (c .before .before .before .write-for .ensures)
+put-pointers-requires c κs =
+    let nodes = c .before .before .before in
+    let block = nodes .before .before .before .before in
+    let start = block .before .before .before .before .before .before in
+    pointers-fit _ _ _ _ _ (start .pre .0) (block .put-block .ensures) (block .before .before .before .wide .ensures) (block .before .before .block-length .ensures) (nodes .write-for .ensures)
 
 add-put-sum : tie.Need-add-put-sum
-add-put-sum c = omega (arith, pointers-fit _ _ _ _ _ (c .before .before .before .before .before .before .before .before .before .before .before .before .before .before .before .before .before .pre .0) (c .before .before .before .before .before .before .before .before .before .before .before .put-block .ensures) (c .before .before .before .before .before .before .before .before .before .before .before .before .before .before .wide .ensures) (c .before .before .before .before .before .before .before .before .before .before .before .before .before .block-length .ensures) (c .before .before .before .before .before .before .before .write-for .ensures))
+add-put-sum c =
+    let nodes = c .before .before .before .before .before .before .before in
+    let block = nodes .before .before .before .before in
+    let start = block .before .before .before .before .before .before in
+    omega (arith, pointers-fit _ _ _ _ _ (start .pre .0) (block .put-block .ensures) (block .before .before .before .wide .ensures) (block .before .before .block-length .ensures) (nodes .write-for .ensures))
 
 put-sum-requires : tie.Need-put-sum-requires
-put-sum-requires c κs = sum-fits _ _ _ _ _ (c .before .before .before .before .before .before .before .before .before .before .before .before .before .before .before .before .before .pre .0) (c .before .before .before .before .before .before .before .before .before .before .before .put-block .ensures) (c .before .before .before .before .before .before .before .before .before .before .before .before .before .before .wide .ensures) (c .before .before .before .before .before .before .before .before .before .before .before .before .before .block-length .ensures) (c .before .before .before .before .before .before .before .write-for .ensures) (c .before .before .before .put-pointers .ensures) (c .before .before .before .before .before .before .before .before .before .before .before .before .before .before .before .before .before .pre .1)
+put-sum-requires c κs =
+    let pointers = c .before .before .before in
+    let nodes = pointers .before .before .before .before in
+    let block = nodes .before .before .before .before in
+    let start = block .before .before .before .before .before .before in
+    sum-fits _ _ _ _ _ (start .pre .0) (block .put-block .ensures) (block .before .before .before .wide .ensures) (block .before .before .block-length .ensures) (nodes .write-for .ensures) (pointers .put-pointers .ensures) (start .pre .1)
 
 same-length : tie.Need-same-length
 same-length c = search needs
 
 returns : tie.Need-returns
-returns c = filed _ _ _ _ _ (c .before .before .before .before .before .before .before .before .before .before .before .before .before .before .before .before .before .before .before .before .pre .0) (c .before .before .before .before .before .before .before .before .before .before .before .before .before .before .put-block .ensures) (c .before .before .before .before .before .before .before .before .before .before .before .before .before .before .before .before .before .wide .ensures) (c .before .before .before .before .before .before .before .before .before .before .before .before .before .before .before .before .block-length .ensures) (c .before .before .before .before .before .before .before .before .before .before .write-for .ensures) (c .before .before .before .before .before .before .put-pointers .ensures) (c .before .before .before .before .before .before .before .before .before .before .before .before .before .before .before .before .before .before .before .before .pre .1) (c .before .before .put-sum .ensures)
+returns c =
+    let pointers = c .before .before .before .before .before .before in
+    let nodes = pointers .before .before .before .before in
+    let block = nodes .before .before .before .before in
+    let start = block .before .before .before .before .before .before in
+    filed _ _ _ _ _ (start .pre .0) (block .put-block .ensures) (block .before .before .before .wide .ensures) (block .before .before .block-length .ensures) (nodes .write-for .ensures) (pointers .put-pointers .ensures) (start .pre .1) (c .before .before .put-sum .ensures)
 
 pub write-file-spec : {M : Type 1} → statement M
 write-file-spec =

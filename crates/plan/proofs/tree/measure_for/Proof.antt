@@ -33,7 +33,12 @@ measure-requires : tie.Need-measure-requires
 measure-requires c κs = trace-ready _ _ _ _ (c .before .before .before .before .before .before .before .before .before .before .before .before .before .before .before .before .pre) (c .before .before .before .before .before .before .before .before .before .before .before .before .before .wide2 .ensures) (c .before .before .before .before .before .before .before .before .before .before .before .before .before .before .wide .ensures)
 
 returns : tie.Need-returns
-returns c = measured-as _ _ _ _ (rows-are _ (c .before .before .before .before .before .before .before .before .before .before .before .before .before .before .wide2 .ensures) (c .before .before .before .before .before .before .before .before .before .before .before .before .before .before .before .wide .ensures) (c .before .before .before .before .before .before .before .wide3 .ensures) (c .before .before .before .before .before .before .before .before .before .before .before .before .before .row .ensures) (c .before .before .before .before .before .before .before .before .before .before .before .before .row2 .ensures) (c .before .before .before .before .before .before .before .before .before .before .before .row3 .ensures) (c .before .before .before .before .before .before .before .before .before .marks .ensures) (c .before .before .before .before .before .before .marks2 .ensures)) (c .before .before .before .before .before .before .before .before .before .before .before .before .before .before .before .wide .ensures) (c .measure .ensures)
+returns c =
+    let high = c .before .before .before .before .before .before in
+    let across = high .before .before .before in
+    let rows = across .before .before in
+    let sides = rows .before .before .before in
+    measured-as _ _ _ _ (rows-are _ (sides .wide2 .ensures) (sides .before .wide .ensures) (high .before .wide3 .ensures) (rows .before .before .row .ensures) (rows .before .row2 .ensures) (rows .row3 .ensures) (across .marks .ensures) (high .marks2 .ensures)) (sides .before .wide .ensures) (c .measure .ensures)
 
 pub measure-for-spec : {M : Type 1} → statement M
 measure-for-spec =

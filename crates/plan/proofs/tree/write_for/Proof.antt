@@ -32,13 +32,24 @@ marks-requires-2 : tie.Need-marks-requires-2
 marks-requires-2 c κs = search needs
 
 write-requires : tie.Need-write-requires
-write-requires c κs = (trace-ready _ _ _ _ (c .before .before .before .before .before .before .before .before .before .before .before .before .before .before .before .before .before .before .pre .0) (c .before .before .before .before .before .before .before .before .before .before .before .before .before .before .wide2 .ensures) (c .before .before .before .before .before .before .before .before .before .before .before .before .before .before .before .wide .ensures), room-as (sym (nodes-as _ _ _ _ (rows-are _ (c .before .before .before .before .before .before .before .before .before .before .before .before .before .before .wide2 .ensures) (c .before .before .before .before .before .before .before .before .before .before .before .before .before .before .before .wide .ensures) (c .before .before .before .before .before .before .before .wide3 .ensures) (c .before .before .before .before .before .before .before .before .before .before .before .before .before .row .ensures) (c .before .before .before .before .before .before .before .before .before .before .before .before .row2 .ensures) (c .before .before .before .before .before .before .before .before .before .before .before .row3 .ensures) (c .before .before .before .before .before .before .before .before .before .marks .ensures) (c .before .before .before .before .before .before .marks2 .ensures)) (c .before .before .before .before .before .before .before .before .before .before .before .before .before .before .before .wide .ensures))) (c .before .before .before .before .before .before .before .before .before .before .before .before .before .before .before .before .before .before .pre .1))
+write-requires c κs =
+    let high = c .before .before .before .before .before .before in
+    let across = high .before .before .before in
+    let rows = across .before .before in
+    let sides = rows .before .before .before in
+    let start = sides .before .before .before .before in
+    (trace-ready _ _ _ _ (start .pre .0) (sides .wide2 .ensures) (sides .before .wide .ensures), room-as (sym (nodes-as _ _ _ _ (rows-are _ (sides .wide2 .ensures) (sides .before .wide .ensures) (high .before .wide3 .ensures) (rows .before .before .row .ensures) (rows .before .row2 .ensures) (rows .row3 .ensures) (across .marks .ensures) (high .marks2 .ensures)) (sides .before .wide .ensures))) (start .pre .1))
 
 same-length : tie.Need-same-length
 same-length c = search needs
 
 returns : tie.Need-returns
-returns c = wrote-as (sym (nodes-as _ _ _ _ (rows-are _ (c .before .before .before .before .before .before .before .before .before .before .before .before .before .before .before .before .before .wide2 .ensures) (c .before .before .before .before .before .before .before .before .before .before .before .before .before .before .before .before .before .before .wide .ensures) (c .before .before .before .before .before .before .before .before .before .before .wide3 .ensures) (c .before .before .before .before .before .before .before .before .before .before .before .before .before .before .before .before .row .ensures) (c .before .before .before .before .before .before .before .before .before .before .before .before .before .before .before .row2 .ensures) (c .before .before .before .before .before .before .before .before .before .before .before .before .before .before .row3 .ensures) (c .before .before .before .before .before .before .before .before .before .before .before .before .marks .ensures) (c .before .before .before .before .before .before .before .before .before .marks2 .ensures)) (c .before .before .before .before .before .before .before .before .before .before .before .before .before .before .before .before .before .before .wide .ensures))) (c .before .before .write .ensures)
+returns c =
+    let high = c .before .before .before .before .before .before .before .before .before in
+    let across = high .before .before .before in
+    let rows = across .before .before in
+    let sides = rows .before .before .before in
+    wrote-as (sym (nodes-as _ _ _ _ (rows-are _ (sides .wide2 .ensures) (sides .before .wide .ensures) (high .before .wide3 .ensures) (rows .before .before .row .ensures) (rows .before .row2 .ensures) (rows .row3 .ensures) (across .marks .ensures) (high .marks2 .ensures)) (sides .before .wide .ensures))) (c .before .before .write .ensures)
 
 pub write-for-spec : {M : Type 1} → statement M
 write-for-spec =

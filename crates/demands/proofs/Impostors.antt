@@ -60,3 +60,9 @@ emptying-all-breaks {job} {t} h k piece u w p i f spared e =
 -- "an invented work count": it is the number of cells that were empty under the question.
 pub inventing-breaks : (job : Job) (t : List ℕ) (x y v n : ℕ) {t' : List ℕ} → AskPromise job t x y (Answered v n) t' → (n ≡ countInBox x y (isEmpty (job .width) t) → ⊥) → ⊥
 inventing-breaks job t x y v n p h = h (demand-3-work job t x y p .0 refl)
+
+-- "also where the record is unchanged by a correction": after an accepted correction no cell in which the old or the new size
+-- fits is filled, so a library that leaves the cells where nothing changed breaks the promise.
+pub keeping-breaks : {job : Job} {t : List ℕ} → History job t → (k : ℕ) (piece : Record) (u w : ℕ) → {r : Changed} {t' : List ℕ} → CorrectPromise job t k piece r t' → r .refusal ≡ 0 → OnSheet (r .job) u w → SizeFits (recordOfPiece job k) u w ⊎ SizeFits piece u w → Filled (r .job) t' u w → ⊥
+keeping-breaks {job} {t} h k piece u w p accepted i hit f =
+    outcome-filled (history-kept h .usable) (correct-outcome job t k piece p) u w i .1 .0 f .1 accepted hit

@@ -117,3 +117,7 @@ printed-more word i h v w = printed-as (rw add-one (sym (take-suc word i 0 h))) 
 
 pub printed-whole : {o p : List ℕ} {at n : ℕ} (word : List ℕ) (i : ℕ) → length word ≤ i → Printed o at (take i word) n p → Printed o at word n p
 printed-whole word i h w = printed-as (take-all i word h) w
+
+-- The place after it lies in the row.
+pub printed-within : {o p : List ℕ} {n : ℕ} {e : List ℕ} → Printed o 0 e n p → n ≤ length p
+printed-within {o} {p} {n} {e} w = omega (arith, w .place, fits-length o 0 e, printed-length w)

@@ -1,22 +1,23 @@
 -- The laws of the tests over a box: what they say of each cell, and one row or one cell more for the loops.
 use Prim.Native.Nat.{ℕ, suc, _+_, _-_, _*_, _≤_, _<_}
 use mathlib.Core.Bool.{Bool, true, false, not, _&&_, _||_}
-use mathlib.Core.Path.{_≡_, refl, sym, ap, ap₂, _∙_}
+use mathlib.Core.Path.{_≡_, sym, ap, ap₂, _∙_}
 use mathlib.Core.List.{List}
 use native.Mathlib.Omega.{arith}
 use native.Mathlib.Numerals.{add-one}
 use native.Mathlib.Nat.{mul-comm}
 use lib.Dec.{ltb, eqb}
 use borrow.Author.Tests.{eq-eqb, ne-eqb}
-use Rattle.laws.specs.Says.{Says}
+use Rattle.laws.specs.Inner.{Says}
 use Rattle.laws.specs.Below.{sumBelow}
-use Rattle.laws.proofs.Says.{says-and, says-not, says-lt, says-eq, says-iff, says-false}
+use Rattle.laws.proofs.Says.{says-and, says-not, says-lt, says-eq, says-iff}
 use Rattle.laws.proofs.Below.{anyBelow-none, anyBelow-more, anyBelow-says, anyBelow-same, sumBelow-none, sumBelow-more, sumBelow-same}
-use Rattle.laws.proofs.Sums.{sumBelow-within, sumBelow-part, sumBelow-zero}
+use Rattle.laws.proofs.Sums.{sumBelow-within, sumBelow-zero}
 use Rattle.cutting.specs.Limits.{valueMax}
 use Rattle.cutting.specs.Piece.{Inside}
 use Rattle.cells.specs.Cells.{empty, cellOf}
-use Rattle.cells.specs.Box.{anyInRow, anyInBox, counted, countInRow, countInBox, isEmpty, tooMuch, exceeds, sought}
+use Rattle.cells.specs.Box.{counted, countInRow, countInBox, isEmpty}
+use Rattle.cells.specs.Inner.{anyInRow, anyInBox, tooMuch, exceeds, sought}
 
 -- The tests of one cell.
 pub isEmpty-says : (a : ℕ) (t : List ℕ) (u w : ℕ) → Says (isEmpty a t u w) (cellOf a t u w ≡ empty)
@@ -97,24 +98,6 @@ pub countInRow-zero : (x w : ℕ) (test : ℕ → ℕ → Bool) → ((u : ℕ) �
 unfolding countInRow
 countInRow-zero x w test h = sumBelow-zero _ x (λ i b. ap counted (h (suc i) (omega arith) (omega arith)))
 
-pub countInBox-zero : (x y : ℕ) (test : ℕ → ℕ → Bool) → anyInBox x y test ≡ false → countInBox x y test ≡ 0
-unfolding countInBox countInRow
-countInBox-zero x y test none =
-    sumBelow-zero _ y
-    (λ j h. sumBelow-zero _ x (λ i k. ap counted (untrue (suc i) (suc j) (omega arith) (test (suc i) (suc j)) refl)))
-  where
-    untrue : (u w : ℕ) → Inside u w x y → (c : Bool) → test u w ≡ c → test u w ≡ false
-    untrue u w i true e = absurd (says-false (anyInBox-says x y test) none (u, w, i, e))
-    untrue u w i false e = e
-
-pub countInBox-some : {u w x y : ℕ} (test : ℕ → ℕ → Bool) → Inside u w x y → test u w ≡ true → 1 ≤ countInBox x y test
-unfolding countInBox countInRow
-countInBox-some {u} {w} {x} {y} test i e =
-    let here : test (suc (u - 1)) (suc (w - 1)) ≡ true = ap₂ test (omega arith) (omega arith) ∙ e in
-    let row = sumBelow-part (λ j. sumBelow (λ i. counted (test (suc i) (suc j))) x) y (w - 1) (omega arith) in
-    let cell = sumBelow-part (λ i. counted (test (suc i) (suc (w - 1)))) x (u - 1) (omega arith) in
-    omega (arith, ap counted here)
-
 -- One more, as the loops go, from 0 with the code's i + 1.
 pub anyInRow-none : (w : ℕ) (test : ℕ → ℕ → Bool) → anyInRow 0 w test ≡ false
 unfolding anyInRow
@@ -148,10 +131,6 @@ anyInBox-found x {j} {y} test h e =
 pub anyInBox-end : {j y : ℕ} (x : ℕ) (test : ℕ → ℕ → Bool) → j ≡ y → anyInBox x j test ≡ false → false ≡ anyInBox x y test
 anyInBox-end x test e f = sym f ∙ ap (λ k. anyInBox x k test) e
 
-pub countInRow-none : (w : ℕ) (test : ℕ → ℕ → Bool) → countInRow 0 w test ≡ 0
-unfolding countInRow
-countInRow-none w test = sumBelow-none _
-
 pub countInRow-more : (i w : ℕ) (test : ℕ → ℕ → Bool) → countInRow (i + 1) w test ≡ countInRow i w test + counted (test (i + 1) w)
 unfolding countInRow
 countInRow-more i w test =
@@ -165,3 +144,8 @@ pub countInBox-more : (x j : ℕ) (test : ℕ → ℕ → Bool) → countInBox x
 unfolding countInBox
 countInBox-more x j test =
     sumBelow-more (λ k. countInRow x (suc k) test) j ∙ ap (λ w. sumBelow (λ k. countInRow x (suc k) test) j + countInRow x w test) (sym (add-one j))
+
+-- Nothing is counted in a box where the test is true of nothing.
+pub countInBox-zero : (x y : ℕ) (test : ℕ → ℕ → Bool) → ((u w : ℕ) → Inside u w x y → test u w ≡ false) → countInBox x y test ≡ 0
+unfolding countInBox countInRow
+countInBox-zero x y test none = sumBelow-zero _ y (λ j h. sumBelow-zero _ x (λ i k. ap counted (none (suc i) (suc j) (omega arith))))

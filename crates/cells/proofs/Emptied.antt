@@ -1,18 +1,19 @@
 -- The laws of emptying, for the desk and for the two loops.
 use Prim.Native.Nat.{ℕ, _*_, _≤_, _<_}
 use mathlib.Core.Bool.{Bool, true, false, cond, _||_}
-use mathlib.Core.Path.{_≡_, refl, sym, ap, _∙_}
+use mathlib.Core.Path.{_≡_, refl, sym, ap, _∙_, subst}
 use mathlib.Core.List.{List}
-use mathlib.Core.Logic.{⊎-elim}
+use mathlib.Core.Logic.{⊎-elim, _↔_}
 use native.Mathlib.Omega.{arith}
 use native.Mathlib.Nat.{mul-le-mul-left}
 use lib.ListN.{length, getD}
-use Rattle.laws.specs.Says.{Says}
+use Rattle.laws.specs.Inner.{Says}
 use Rattle.laws.proofs.Order.{le-or-lt}
-use Rattle.laws.proofs.Says.{says-and, says-le, says-iff, says-no}
+use Rattle.laws.proofs.Says.{says-and, says-le, says-iff, says-no, says-false}
 use Rattle.cutting.specs.Piece.{Fits, Inside}
 use Rattle.cells.specs.Cells.{empty, place, cellOf}
-use Rattle.cells.specs.Emptied.{emptiedWhere, fits, emptied}
+use Rattle.cells.specs.Emptied.{Empties}
+use Rattle.cells.specs.Inner.{emptiedWhere, fits, emptied}
 use Rattle.cells.proofs.Places.{place-above}
 use Rattle.cells.proofs.Redrawn.{redrawn-length, redrawn-cell, redrawn-beyond, is-redrawn, redrawn-same, redrawn-keeps}
 
@@ -35,6 +36,27 @@ emptiedWhere-beyond a b r t k h = redrawn-beyond a b _ t k h
 pub is-emptiedWhere : (a b : ℕ) (r : ℕ → ℕ → Bool) (t t' : List ℕ) → length t' ≡ length t → ((x y : ℕ) → Inside x y a b → cellOf a t' x y ≡ cond (r x y) empty (cellOf a t x y)) → ((k : ℕ) → a * b ≤ k → getD t' k empty ≡ getD t k empty) → t' ≡ emptiedWhere a b r t
 unfolding emptiedWhere
 is-emptiedWhere a b r t t' = is-redrawn a b _ t t'
+
+-- Where the test says what is hit, the row that it empties is the only one that `Empties` allows.
+module _ (a b : ℕ) (struck : ℕ → ℕ → Bool) (hit : ℕ → ℕ → Type 0) (t : List ℕ) (room : a * b ≤ length t) (says : (x y : ℕ) → Inside x y a b → Says (struck x y) (hit x y)) where
+  pub emptiedWhere-empties : Empties a b hit t (emptiedWhere a b struck t)
+  emptiedWhere-empties =
+      record {
+        emptied = λ x y i h. emptiedWhere-cell struck t room i ∙ ap (left a t x y) (says x y i .found h);
+        kept = λ x y i h. emptiedWhere-cell struck t room i ∙ ap (left a t x y) (says-no (says x y i) h);
+        beyond = emptiedWhere-beyond a b struck t;
+        long = emptiedWhere-length a b struck t;
+      }
+
+  pub empties-only : (t' : List ℕ) → Empties a b hit t t' → t' ≡ emptiedWhere a b struck t
+  empties-only t' e = is-emptiedWhere a b struck t t' (e .long) (λ x y i. by x y i (struck x y) (says x y i)) (e .beyond)
+    where
+      by : (x y : ℕ) → Inside x y a b → (s : Bool) → Says s (hit x y) → cellOf a t' x y ≡ left a t x y s
+      by x y i true s = e .emptied x y i (s .means refl)
+      by x y i false s = e .kept x y i (says-false s refl)
+
+  pub empties-exactly : (t' : List ℕ) → (t' ≡ emptiedWhere a b struck t) ↔ Empties a b hit t t'
+  empties-exactly t' = ((λ e. subst (Empties a b hit t) (sym e) emptiedWhere-empties), empties-only t')
 
 -- Only what is said of the cells of the sheet counts.
 pub emptiedWhere-same : (a b : ℕ) (r s : ℕ → ℕ → Bool) (t : List ℕ) → ((x y : ℕ) → Inside x y a b → r x y ≡ s x y) → emptiedWhere a b r t ≡ emptiedWhere a b s t
@@ -89,15 +111,6 @@ emptied-fitting {p} {q} {x} {y} {a} t room i f = emptiedWhere-cell (fits p q) t 
 -- "Open a, b: empties the first a·b cells": every cell has room for 1 by 1.
 pub emptied-whole : {x y a b : ℕ} (t : List ℕ) → a * b ≤ length t → Inside x y a b → cellOf a (emptied a b 1 1 t) x y ≡ empty
 emptied-whole t room i = emptied-fitting t room i (omega arith)
-
--- "All other cells keep their number."
-pub emptied-other : {x y a b : ℕ} (p q : ℕ) (t : List ℕ) → a * b ≤ length t → Inside x y a b → (Fits p q x y → ⊥) → cellOf a (emptied a b p q t) x y ≡ cellOf a t x y
-unfolding emptied
-emptied-other {x} {y} {a} p q t room i f = emptiedWhere-cell (fits p q) t room i ∙ ap (left a t x y) (says-no (fits-says p q x y) f)
-
-pub emptied-beyond : (a b p q : ℕ) (t : List ℕ) (k : ℕ) → a * b ≤ k → getD (emptied a b p q t) k empty ≡ getD t k empty
-unfolding emptied
-emptied-beyond a b p q t k h = emptiedWhere-beyond a b (fits p q) t k h
 
 -- "where the old size or the new size .. fits"
 pub emptied-twice : (a b p q p' q' : ℕ) (t : List ℕ) → a * b ≤ length t → emptied a b p' q' (emptied a b p q t) ≡ emptiedWhere a b (λ x y. fits p q x y || fits p' q' x y) t

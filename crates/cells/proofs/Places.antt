@@ -6,7 +6,8 @@ use native.Mathlib.Nat.{suc-mul, mul-comm, zero-mul, mul-le-mul, mul-le-mul-left
 use Rattle.cutting.specs.Limits.{sideMax}
 use Rattle.cutting.specs.Piece.{Inside}
 use mathlib.Core.List.{List}
-use Rattle.cells.specs.Cells.{place, Holds}
+use Rattle.cells.specs.Cells.{place}
+use Rattle.cells.specs.Inner.{Holds}
 
 pub place-below : {x y a b : ℕ} → Inside x y a b → place a x y < a * b
 unfolding place

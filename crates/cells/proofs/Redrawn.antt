@@ -12,7 +12,8 @@ use borrow.Author.Tests.{lt-ltb, le-ltb}
 use Rattle.laws.proofs.Order.{le-or-lt}
 use Rattle.laws.proofs.ByIndex.{byIndex-length, byIndex-at, is-byIndex, byIndex-same}
 use Rattle.cutting.specs.Piece.{Inside}
-use Rattle.cells.specs.Cells.{empty, place, cellOf, redrawn}
+use Rattle.cells.specs.Cells.{empty, place, cellOf}
+use Rattle.cells.specs.Inner.{redrawn}
 use Rattle.cells.proofs.Places.{place-below, place-column, place-row, cell-inside, cell-place, same-place}
 
 -- What index k of the redrawn row holds, by whether it is a cell.

@@ -6,12 +6,12 @@ use mathlib.Core.List.{List}
 use mathlib.Core.Logic.{_⊎_, inl, inr, ⊎-elim}
 use native.Mathlib.Omega.{arith}
 use lib.ListN.{length, set, length-set}
-use Rattle.laws.specs.Says.{Says}
+use Rattle.laws.specs.Inner.{Says}
 use Rattle.laws.proofs.Order.{le-or-lt}
 use Rattle.laws.proofs.Says.{says-and, says-or, says-le, says-lt, says-iff, says-no, says-false, says-same}
 use Rattle.cutting.specs.Piece.{Inside}
 use Rattle.cells.specs.Cells.{empty, place, cellOf}
-use Rattle.cells.specs.Emptied.{emptiedWhere, emptied, between, block, rowFrom}
+use Rattle.cells.specs.Inner.{emptiedWhere, emptied, between, block, rowFrom}
 use Rattle.cells.proofs.Redrawn.{store-same, store-other, store-beyond}
 use Rattle.cells.proofs.Emptied.{emptiedWhere-length, is-emptiedWhere, emptiedWhere-same, emptiedWhere-none, emptiedWhere-twice, emptiedWhere-lower, fits-says}
 

@@ -2,3 +2,4 @@
 pub mod Cells
 pub mod Emptied
 pub mod Box
+pub mod Inner

@@ -4,16 +4,16 @@ ghost use mathlib.Core.Path.{_≡_};
 ghost use lib.ListN.{set};
 ghost use Rattle.cutting.specs.Limits.{sideMax};
 ghost use Rattle.cutting.specs.Piece.{Inside};
-ghost use Rattle.cells.specs.Cells.{Holds, cellOf, place as placeOf};
-ghost use Rattle.cells.specs.Box.{anyInRow, anyInBox, isEmpty, tooMuch, exceeds, sought};
-ghost use Rattle.cells.specs.Emptied.{emptiedWhere, emptied, rowFrom};
+ghost use Rattle.cells.specs.Cells.{cellOf, place as placeOf};
+ghost use Rattle.cells.specs.Inner.{Holds, anyInRow, anyInBox, tooMuch, exceeds, sought, emptiedWhere, emptied, rowFrom};
+ghost use Rattle.cells.specs.Box.{isEmpty};
 use job::Piece;
 
 // A cell that has not been worked out.
 pub const EMPTY: u32 = 4_294_967_295;
 
 // The index of cell (x, y) in the row of a sheet of width a.
-pub fn place(a: usize, x: usize, y: usize) -> usize
+fn place(a: usize, x: usize, y: usize) -> usize
     requires { ⌜ a ≤ sideMax ⌝ }
     requires { ⌜ Inside x y a sideMax ⌝ }
     ensures { λ r. ⌜ r ≡ placeOf a x y ⌝ }

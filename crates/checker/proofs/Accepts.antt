@@ -20,7 +20,8 @@ use Rattle.job.specs.declared.Job.{Job}
 use Rattle.job.specs.declared.Blocked.{Blocked}
 use Rattle.job.specs.Job.{piecesOf, jobOf}
 use Rattle.job.specs.Range.{JobInRange}
-use Rattle.job.specs.Block.{fromBlock, blockOf}
+use Rattle.job.specs.Block.{blockOf}
+use Rattle.job.specs.Inner.{fromBlock}
 use Rattle.job.proofs.Pieces.{pieces-length, pieces-jobOf}
 use Rattle.job.proofs.Range.{job-says, jobOf-in-range}
 use Rattle.job.proofs.Blocks.{shape-says, block-length, from-block-of-block, block-written, range-fits}
@@ -32,12 +33,13 @@ use Rattle.nodes.proofs.Encoding.{encode-least, valid-written}
 use Rattle.nodes.proofs.Exactly.{complete}
 use Rattle.checker.specs.Refusals.{fileMost}
 use Rattle.checker.specs.Fields.{trailerAt, blockDistance, nodesDistance, statedValue, statedSum, noteLength, nodesAt, summedBytes, blockBytes, beforeTrailer, jobAt}
-use Rattle.checker.specs.Checked.{Answer, answer, Framed, agreed, nodesRead, checked}
+use Rattle.checker.specs.Checked.{Answer, answer, Framed}
+use Rattle.checker.specs.Inner.{agreed, nodesRead, checked}
 use Rattle.checker.specs.Given.{SumTrue, JobFits, NodesObey, Given}
 use Rattle.checker.specs.PlanFile.{body, pointers, summed, planBytes, PlanFile}
 use Rattle.checker.specs.declared.Checked.{Checked}
 use Rattle.checker.proofs.Stages.{framed-says, sum-says, nodes-done, judged-yes, judges}
-use Rattle.checker.proofs.Parts.{layout, pointersOf, laid-length, laid-trailer, laid-far, laid-near, laid-value, laid-sum, laid-note, laid-summed, laid-block, laid-found, taken, dropped, laid-out}
+use Rattle.checker.proofs.Parts.{layout, pointersOf, laid-length, laid-trailer, laid-far, laid-value, laid-sum, laid-note, laid-summed, laid-block, laid-found, taken, dropped, laid-out}
 use Rattle.checker.proofs.Given.{bytes-take, bytes-drop, fits-shape, block-bytes-length, given}
 
 -- The file of a valid tree is accepted, with the tree's value and areas.
@@ -88,9 +90,6 @@ module _ (note : List ℕ) (job : Job) (tree : Tree) (range : JobInRange job) (v
 
   far-at : blockDistance file ≡ far
   far-at = laid-far note (blockOf job) (encode tree) far near value sum small-far small-near small-value small-sum
-
-  near-at : nodesDistance file ≡ near
-  near-at = laid-near note (blockOf job) (encode tree) far near value sum small-far small-near small-value small-sum
 
   value-at : statedValue file ≡ value
   value-at = laid-value note (blockOf job) (encode tree) far near value sum small-far small-near small-value small-sum

@@ -7,7 +7,7 @@ use mathlib.Core.List.{List}
 use native.Mathlib.Omega.{arith}
 use lib.ListN.{length, getD, take, drop, length-take, length-drop, List·getD-eq-default}
 use lib.Seq.{getD-take, getD-drop}
-use Rattle.laws.specs.Says.{Says}
+use Rattle.laws.specs.Inner.{Says}
 use Rattle.laws.proofs.Says.{says-no, says-eq}
 use Rattle.laws.proofs.Choice.{either-way}
 use Rattle.laws.proofs.ByIndex.{byIndex-length}
@@ -16,7 +16,8 @@ use Rattle.fields.specs.Number.{number2Of, Bytes}
 use Rattle.job.specs.declared.Job.{Job}
 use Rattle.job.specs.Job.{piecesOf, jobOf}
 use Rattle.job.specs.Range.{JobInRange}
-use Rattle.job.specs.Block.{fromBlock, jobIn, pieceIn, countIn, blockShape}
+use Rattle.job.specs.Block.{jobIn, pieceIn, countIn}
+use Rattle.job.specs.Inner.{fromBlock, blockShape}
 use Rattle.job.proofs.Pieces.{pieces-length}
 use Rattle.job.proofs.Range.{job-says}
 use Rattle.job.proofs.Blocks.{shape-says}
@@ -27,7 +28,8 @@ use Rattle.nodes.proofs.Exactly.{exactly}
 use Rattle.nodes.proofs.Own.{never-read, place-same}
 use Rattle.checker.specs.Refusals.{nodesBroken}
 use Rattle.checker.specs.Fields.{trailerAt, blockDistance, nodesDistance, statedValue, noteLength, nodesAt, blockBytes, beforeTrailer, jobAt, countAt}
-use Rattle.checker.specs.Checked.{Framed, framed, sumAgrees, agreed, whole, nodesRead, judged, judgedJob, checked}
+use Rattle.checker.specs.Checked.{Framed, whole}
+use Rattle.checker.specs.Inner.{framed, sumAgrees, agreed, nodesRead, judged, judgedJob, checked}
 use Rattle.checker.specs.Given.{SumTrue, JobFits, NodesObey, Given}
 use Rattle.checker.specs.declared.Checked.{Checked}
 use Rattle.checker.proofs.Stages.{framed-says, sum-says, agreed-tells, from-ok, from-job, judged-broken, judged-left, judged-value, judged-yes, refuses-9, refuses-10, refuses-11, judges}

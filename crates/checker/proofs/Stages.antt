@@ -7,7 +7,7 @@ use native.Mathlib.Omega.{arith}
 use native.Mathlib.Nat.{mul-le-mul}
 use lib.Dec.{leb, eqb}
 use lib.ListN.{length, getD, take, drop, length-take}
-use Rattle.laws.specs.Says.{Says}
+use Rattle.laws.specs.Inner.{Says}
 use Rattle.laws.proofs.Says.{says-no, says-and, says-le, says-eq, says-iff}
 use Rattle.laws.proofs.Tests.{and-no, and-yes, le-yes}
 use Rattle.laws.proofs.ByIndex.{is-byIndex}
@@ -19,20 +19,20 @@ use Rattle.job.specs.declared.Job.{Job}
 use Rattle.job.specs.declared.Blocked.{Blocked}
 use Rattle.job.specs.declared.Measure.{Measure}
 use Rattle.job.specs.Job.{piecesOf, zeroJob}
-use Rattle.job.specs.Range.{JobInRange, jobInRange}
-use Rattle.job.specs.Block.{jobIn, fromBlock, blockShape, BlockShape}
-use Rattle.job.specs.Row.{measured, rowOf}
+use Rattle.job.specs.Range.{JobInRange}
+use Rattle.job.specs.Inner.{jobInRange, fromBlock, blockShape, measured, rowOf}
+use Rattle.job.specs.Block.{jobIn, BlockShape}
 use Rattle.job.proofs.Pieces.{pieces-length}
 use Rattle.job.proofs.Rows.{row-at}
 use Rattle.job.proofs.Range.{job-says}
 use Rattle.job.proofs.Blocks.{shape-says}
 use Rattle.nodes.specs.declared.Part.{Part}
 use Rattle.nodes.specs.declared.Tally.{Tally}
-use Rattle.nodes.specs.Rows.{rows}
-use Rattle.nodes.specs.Reader.{partAt, Ready}
+use Rattle.nodes.specs.Inner.{rows, partAt, Ready}
 use Rattle.checker.specs.Refusals.{notFramed, sumDiffers, jobOutOfRange, nodesBroken, valueDiffers, fileLeast, fileMost, distanceLeast}
 use Rattle.checker.specs.Fields.{trailerAt, blockDistance, nodesDistance, statedValue, statedSum, noteLength, nodesAt, summedBytes, blockBytes}
-use Rattle.checker.specs.Checked.{Framed, framed, sumAgrees, agreed, whole, nodesRead, judged, judgedJob, checked}
+use Rattle.checker.specs.Checked.{Framed, whole}
+use Rattle.checker.specs.Inner.{framed, sumAgrees, agreed, nodesRead, judged, judgedJob, checked}
 use Rattle.checker.specs.declared.Checked.{Checked}
 
 says-true : (b : Bool) → Says b (b ≡ true)

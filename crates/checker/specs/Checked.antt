@@ -1,21 +1,11 @@
--- The check: refusals 9 to 13 in the order of their numbers, and the answer.
+-- The answer's number and values; when a file is framed; the rectangle that its nodes dissect.
 use Prim.Native.Nat.{ℕ, _≤_}
-use mathlib.Core.Bool.{Bool, cond, _&&_}
-use mathlib.Core.Path.{_≡_}
 use mathlib.Core.List.{List}
-use lib.Dec.{leb, eqb}
 use lib.ListN.{length}
-use Rattle.fields.specs.Sum.{sumOf}
 use Rattle.job.specs.declared.Job.{Job}
-use Rattle.job.specs.declared.Blocked.{Blocked}
-use Rattle.job.specs.Job.{piecesOf}
-use Rattle.job.specs.Range.{jobInRange}
-use Rattle.job.specs.Block.{fromBlock}
 use Rattle.nodes.specs.declared.Frame.{Frame}
-use Rattle.nodes.specs.declared.Part.{Part}
-use Rattle.nodes.specs.Reader.{partAt}
-use Rattle.checker.specs.Refusals.{notFramed, sumDiffers, jobOutOfRange, nodesBroken, valueDiffers, fileLeast, fileMost, distanceLeast}
-use Rattle.checker.specs.Fields.{trailerAt, blockDistance, statedValue, statedSum, noteLength, nodesAt, summedBytes, blockBytes, beforeTrailer}
+use Rattle.checker.specs.Refusals.{fileLeast, fileMost, distanceLeast}
+use Rattle.checker.specs.Fields.{trailerAt, blockDistance}
 use Rattle.checker.specs.declared.Checked.{Checked}
 
 -- The paper's number and values for each case of the answer. "An accepted call has number 0. A refusal returns its number with
@@ -31,50 +21,13 @@ abbrev pub answer : Checked → Answer
 answer (Checked.Accepted value note pieces scrap) = record { number = 0; value = value; note = note; pieceArea = pieces; scrapArea = scrap }
 answer (Checked.Refused number) = record { number = number; value = 0; note = 0; pieceArea = 0; scrapArea = 0 }
 
--- 9: "file length out of range, D1 < 9, or D1 > length − 16"
-unfoldable pub framed : List ℕ → Bool
-framed file =
-    leb fileLeast (length file) && (leb (length file) fileMost && (leb distanceLeast (blockDistance file) && leb (blockDistance file) (trailerAt file)))
-
--- The same as a fact.
+-- The file's length is in range, and D1 is 9 at least and length − 16 at most: refusal 9 doesn't come.
 pub record Framed (file : List ℕ) : Type 0 where
   pub least : fileLeast ≤ length file
   pub most : length file ≤ fileMost
   pub distance : distanceLeast ≤ blockDistance file
   pub inside : blockDistance file ≤ trailerAt file
 
--- 10: "the running sum differs"
-unfoldable pub sumAgrees : List ℕ → Bool
-sumAgrees file = eqb (sumOf (summedBytes file)) (statedSum file)
-
--- 11: "job block out of range, or D1 isn't 6 + 6n + D2"
-unfoldable pub agreed : Blocked → Bool
-agreed blocked = blocked .ok && jobInRange (blocked .job)
-
--- The whole rectangle of a job, whose nodes start at a place, and what they are read as.
+-- The whole rectangle of a job, whose nodes start at a place.
 abbrev pub whole : Job → ℕ → Frame
 whole job at = record { at = at; sides = record { width = job .width; height = job .height } }
-
-unfoldable pub nodesRead : List ℕ → Job → Part
-nodesRead file job = partAt (piecesOf job) (beforeTrailer file) (whole job (nodesAt file))
-
--- 12: "the nodes break a rule below", "bytes left after it"; 13: "the stated value isn't the sum of the leaves"
-unfoldable pub judged : List ℕ → Part → Checked
-judged file (Part.Read next tally) =
-    cond (eqb next (trailerAt file))
-    (cond (eqb (tally .value) (statedValue file)) (Checked.Accepted (tally .value) (noteLength file) (tally .pieces) (tally .scrap)) (Checked.Refused valueDiffers))
-    (Checked.Refused nodesBroken)
-judged file Part.Broken = Checked.Refused nodesBroken
-
--- 11 to 13, by the job of the block.
-unfoldable pub judgedJob : List ℕ → Blocked → Checked
-judgedJob file blocked = cond (agreed blocked) (judged file (nodesRead file (blocked .job))) (Checked.Refused jobOutOfRange)
-
--- "Checked in the order of the numbers."
-unfoldable pub checked : List ℕ → Checked
-checked file =
-    cond (framed file) (cond (sumAgrees file) (judgedJob file (fromBlock (blockBytes file))) (Checked.Refused sumDiffers)) (Checked.Refused notFramed)
-
--- The promise of check, for all input: r is its answer. It has no premise.
-abbrev pub CheckPromise : List ℕ → Checked → Type 0
-CheckPromise file r = r ≡ checked file

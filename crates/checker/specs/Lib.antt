@@ -1,7 +1,7 @@
--- What check promises: the plan file's fields, the stages of the check, and what an accepted file is.
+-- What check promises: the plan file's fields, what an accepted file is, and which answer is given, exactly when.
 pub mod Refusals
 pub mod Fields
 pub mod Checked
 pub mod PlanFile
 pub mod Given
-pub mod Sheets
+pub mod Inner

@@ -13,10 +13,11 @@ ghost use mathlib.Core.Path.{_≡_};
 ghost use Prim.Native.Nat.{_+_, _-_, _≤_};
 ghost use lib.ListN.{length};
 ghost use Rattle.job.specs.Range.{JobInRange};
-ghost use Rattle.job.specs.Block.{fromBlock};
+ghost use Rattle.job.specs.Inner.{fromBlock};
 ghost use Rattle.checker.specs.Refusals.{trailerLength, fileMost};
 ghost use Rattle.checker.specs.Fields.{trailerAt, blockDistance, nodesDistance, statedValue, noteLength, blockBytes};
-ghost use Rattle.checker.specs.Checked.{Framed, framed, sumAgrees, agreed, nodesRead, judged, CheckPromise};
+ghost use Rattle.checker.specs.Checked.{Framed};
+ghost use Rattle.checker.specs.Inner.{framed, sumAgrees, agreed, nodesRead, judged, CheckPromise};
 
 // The answer: a file's value, the length of its note, the area of its pieces and that of its scrap; or the number of a refusal.
 pub enum Checked {

@@ -1,20 +1,19 @@
--- Theorem 1, second half: for any list of pieces and any x, y ≥ 1 the best value exists, and `bestValue` computes it.
-use Prim.Native.Nat.{ℕ, zero, suc, _+_, _-_, _≤_, _<_, max}
+-- For any list of pieces and any x, y ≥ 1 the best value exists, and `bestValue` computes it.
+use Prim.Native.Nat.{ℕ, zero, suc, _+_, _-_, _≤_, _<_}
 use mathlib.Core.Bool.{Bool, true, false, cond}
-use mathlib.Core.Path.{_≡_, refl, sym, ap, _∙_, subst}
+use mathlib.Core.Path.{_≡_, refl, sym, ap, subst}
 use mathlib.Core.Logic.{⊎-elim}
 use mathlib.Core.List.{List}
 use native.Mathlib.Omega.{arith}
 use lib.ListN.{length, getD}
-use Rattle.laws.specs.Largest.{Largest}
-use Rattle.laws.specs.Says.{Says}
+use Rattle.laws.specs.Inner.{Says}
 use Rattle.laws.proofs.Says.{says-and, says-eq}
 use Rattle.laws.proofs.Order.{larger}
 use Rattle.laws.proofs.Below.{bestBelow-bound, bestBelow-attained}
 use Rattle.cutting.specs.Piece.{Piece, sized, noPiece, Lays}
 use Rattle.cutting.specs.Dissection.{rest, Line, Earns, Best}
-use Rattle.cutting.specs.BestValue.{exactly, exactValue, everyLine, bestWithin, bestValue}
-use Rattle.cutting.proofs.Listed.{Listed, lays-listed, listed-lays}
+use Rattle.cutting.specs.Inner.{exactly, exactValue, everyLine, bestWithin, bestValue}
+use Rattle.cutting.proofs.Listed.{lays-listed, listed-lays}
 
 -- A piece earns its exact value on x by y, and one of this size earns its value.
 exactly-earned : (pieces : List Piece) (i x y : ℕ) → i < length pieces → Earns (Lays pieces) x y (exactly (getD pieces i noPiece) x y)

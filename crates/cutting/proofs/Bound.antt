@@ -1,12 +1,10 @@
--- Theorem 5: "no earning exceeds x·y·65,535 for pieces in range", so no sum of cells overflows and refusal 7 never arises on a kept table.
-use Prim.Native.Nat.{ℕ, suc, _+_, _-_, _*_, _≤_}
-use mathlib.Core.Path.{_≡_, refl, sym, subst}
+-- "no earning exceeds x·y·65,535 for pieces in range", so no sum of cells overflows and refusal 7 never arises on a kept table.
+use Prim.Native.Nat.{ℕ, _+_, _-_, _*_, _≤_}
 use native.Mathlib.Omega.{arith}
-use native.Mathlib.Nat.{mul-le-mul, add-mul, mul-comm}
+use native.Mathlib.Nat.{mul-le-mul}
 use Rattle.cutting.specs.Limits.{valueMax}
-use Rattle.cutting.specs.Piece.{Lay, Turned, InRange, PieceInRange}
-use Rattle.cutting.specs.Dissection.{Line, Earns, Best}
-use Rattle.cutting.proofs.Dissection.{turned}
+use Rattle.cutting.specs.Piece.{Lay, InRange}
+use Rattle.cutting.specs.Dissection.{Earns, Best}
 
 -- The most that x by y can earn.
 abbrev pub most : ℕ → ℕ → ℕ
@@ -15,9 +13,6 @@ most x y = x * y * valueMax
 -- The two parts of a line have at most the area of the whole.
 pub most-parts : (x y c r : ℕ) → c + r ≤ x → most c y + most r y ≤ most x y
 most-parts x y c r h = omega (arith, mul-le-mul {n₁ = c + r} {m₁ = y} {n₂ = x} {m₂ = y} h (omega arith))
-
-pub most-turned : (x y : ℕ) → most x y ≡ most y x
-most-turned x y = omega arith
 
 pub most-mono : (x y u w : ℕ) → x ≤ u → y ≤ w → most x y ≤ most u w
 most-mono x y u w h k = omega (arith, mul-le-mul {n₁ = x} {m₁ = y} {n₂ = u} {m₂ = w} h k)

@@ -1,16 +1,15 @@
 -- A dissection may be turned, and a rectangle enlarged: nothing is lost. Best values are unique.
-use Prim.Native.Nat.{ℕ, _+_, _-_, _≤_, _<_}
+use Prim.Native.Nat.{ℕ, _-_, _≤_, _<_}
 use mathlib.Core.Path.{_≡_, refl, subst}
-use mathlib.Core.Logic.{_⊎_, inl, inr, ⊎-elim, _↔_}
+use mathlib.Core.Logic.{_⊎_, ⊎-elim}
 use native.Mathlib.Omega.{arith}
 use native.Mathlib.Nat.{add-zero}
-use Rattle.laws.specs.Largest.{Largest}
 use Rattle.laws.proofs.Largest.{largest-unique, largest-mono}
 use Rattle.laws.proofs.Order.{le-or-lt}
 use Rattle.cutting.specs.Piece.{Lay, Turned}
-use Rattle.cutting.specs.Dissection.{rest, Line, Earns, Best}
+use Rattle.cutting.specs.Dissection.{Earns, Best}
 
--- Theorem 1, first half: there is only one best value.
+-- There is only one best value.
 pub best-unique : {lay : Lay} {x y v w : ℕ} → Best lay x y v → Best lay x y w → v ≡ w
 best-unique = largest-unique
 
@@ -34,7 +33,7 @@ pub widened : {lay : Lay} {x y e : ℕ} (z : ℕ) → 1 ≤ x → x ≤ z → Ea
 widened {lay} {x} {y} {e} z p h d =
     ⊎-elim (λ g. subst (λ (k : ℕ). Earns lay k y e) (omega arith) d) (λ g. trimmed z p g d) (le-or-lt z x)
 
--- Theorem 2, first half: enlarging a rectangle loses nothing.
+-- Enlarging a rectangle loses nothing.
 pub enlarged : {lay : Lay} {x y e : ℕ} (u w : ℕ) → 1 ≤ x → x ≤ u → 1 ≤ y → y ≤ w → Earns lay x y e → Earns lay u w e
 enlarged u w p h q k d = turned (widened w q k (turned (widened u p h d)))
 

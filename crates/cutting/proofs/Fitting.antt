@@ -1,22 +1,18 @@
 -- Only what fits matters: the best value of x by y depends on the pieces that fit in it and on no other.
-use Prim.Native.Nat.{ℕ, zero, suc, _+_, _-_, _≤_, _<_}
-use mathlib.Core.Path.{_≡_, refl, sym, ap, _∙_, subst}
-use mathlib.Core.Logic.{_⊎_, inl, inr, ⊎-elim, _↔_, _≢_}
+use Prim.Native.Nat.{ℕ, suc, _+_, _-_, _≤_, _<_}
+use mathlib.Core.Path.{_≡_, sym, ap, _∙_, subst}
+use mathlib.Core.Logic.{_⊎_, inl, inr, ⊎-elim, _↔_}
 use mathlib.Core.List.{List, [], _∷_, _++_}
 use native.Mathlib.Omega.{arith}
 use native.Mathlib.Decide.{ℕ-discrete}
-use lib.ListN.{length, getD, take, drop, set, length-append, length-set, length-take, length-drop, List·getD-append}
+use lib.ListN.{length, getD, take, drop, set, length-append, length-set, length-drop, List·getD-append}
 use lib.Seq.{getD-append-add, getD-set-same, getD-set-other, getD-take, getD-drop, length-take-le, getD-append-seam}
 use Rattle.laws.proofs.Largest.{largest-same}
 use Rattle.laws.proofs.Order.{le-or-lt, last-or-below}
-use Rattle.cutting.specs.Piece.{Piece, noPiece, pieceAt, Numbered, Lay, Lays, Fits}
-use Rattle.cutting.specs.Dissection.{Line, Earns, Best}
+use Rattle.cutting.specs.Piece.{Piece, noPiece, pieceAt, Lay, Lays, Fits}
+use Rattle.cutting.specs.Dissection.{Earns, Best}
 use Rattle.cutting.proofs.Listed.{Listed, lays-listed, listed-lays}
-use Rattle.cutting.specs.Change.{added, corrected, removed}
-
--- Every size of the one lay that fits in x by y may lie in the other too, for the same value.
-abbrev pub CoveredBy : Lay → Lay → ℕ → ℕ → Type 0
-CoveredBy lay other x y = (p q v : ℕ) → Fits p q x y → lay p q v → other p q v
+use Rattle.cutting.specs.Change.{added, corrected, removed, CoveredBy, TooLarge}
 
 pub earns-fitting : {lay : Lay} (other : Lay) {x y e : ℕ} → CoveredBy lay other x y → Earns lay x y e → Earns other x y e
 earns-fitting other h Earns.scrap = Earns.scrap
@@ -29,13 +25,9 @@ earns-fitting other h (Earns.horizontal l s t) =
     Earns.horizontal l (earns-fitting other (λ p q v f. h p q v (record { wide = f .wide; high = omega (arith, f .high) })) s)
     (earns-fitting other (λ p q v f. h p q v (record { wide = f .wide; high = omega (arith, f .high) })) t)
 
--- Theorem 4: lays that agree on what fits have the same best value.
+-- Lays that agree on what fits have the same best value.
 pub fitting-only : (lay other : Lay) (x y : ℕ) → CoveredBy lay other x y → CoveredBy other lay x y → (v : ℕ) → Best lay x y v ↔ Best other x y v
 fitting-only lay other x y h k = largest-same (λ e. (earns-fitting other h, earns-fitting lay k))
-
--- The size of the piece does not fit in x by y.
-abbrev pub TooLarge : Piece → ℕ → ℕ → Type 0
-TooLarge piece x y = Fits (piece .width) (piece .height) x y → ⊥
 
 -- What stands at index i of the list is too large, or stands in the other list too.
 Kept : List Piece → List Piece → ℕ → ℕ → ℕ → Type 0

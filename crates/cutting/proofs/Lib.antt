@@ -7,4 +7,3 @@ pub mod Fitting
 pub mod Bound
 pub mod Tree
 pub mod BestValue
-pub mod Sheets

@@ -1,12 +1,13 @@
 -- 001, Theorem 1: narrowing a rectangle to a point of P, or of Q, loses nothing.
-use Prim.Native.Nat.{ℕ, _+_, _-_, _≤_, _<_}
+use Prim.Native.Nat.{ℕ, _+_, _-_, _≤_}
 use mathlib.Core.Path.{_≡_, refl, sym, subst}
 use mathlib.Core.Logic.{⊎-elim}
 use native.Mathlib.Omega.{arith}
 use Rattle.laws.proofs.Order.{le-or-lt}
 use Rattle.cutting.specs.Piece.{Lay, Turned}
 use Rattle.cutting.specs.Dissection.{Line, Earns}
-use Rattle.cutting.specs.Points.{Sum, P, Narrowed}
+use Rattle.cutting.specs.Points.{Sum, P}
+use Rattle.cutting.specs.Points.{Narrowed}
 use Rattle.cutting.proofs.Dissection.{turned, widened}
 
 -- "P is additive": sums of sums are sums.
@@ -45,7 +46,7 @@ above l (Narrowed.atPoint b p k) (Narrowed.atPoint c q m) =
     (λ h. Narrowed.atPoint b p (Earns.horizontal l k (widened b (q .notZero) (omega arith) m)))
     (le-or-lt b c)
 
--- Theorem 2, second half, for widths.
+-- Narrowing loses nothing, for widths.
 pub narrowed-width : {lay : Lay} {x y e : ℕ} → 1 ≤ x → Earns lay x y e → Narrowed lay x y e
 narrowed-width h Earns.scrap = Narrowed.worthless refl
 narrowed-width {x = x} h (Earns.piece {y = y} {v = v} g) =

@@ -1,15 +1,15 @@
 -- The rule: where all smaller rectangles' numbers are best values, the largest candidate is the best value.
 -- The dull lines can't beat the candidates: each dissection inside u by w is matched by a candidate of (u, w).
-use Prim.Native.Nat.{ℕ, zero, suc, _+_, _-_, _/_, _≤_, _<_}
-use mathlib.Core.Path.{_≡_, refl, sym, subst}
-use mathlib.Core.Logic.{_⊎_, inl, inr, ⊎-elim, _↔_}
+use Prim.Native.Nat.{ℕ, zero, suc, _+_, _-_, _≤_, _<_}
+use mathlib.Core.Path.{refl, subst}
+use mathlib.Core.Logic.{_⊎_, ⊎-elim}
 use native.Mathlib.Omega.{arith}
-use Rattle.laws.specs.Largest.{Largest}
 use Rattle.laws.proofs.Order.{le-or-lt}
-use Rattle.cutting.specs.Piece.{Lay, Turned, Fits, Inside, InRange}
+use Rattle.cutting.specs.Piece.{Lay, Turned, Inside, InRange}
 use Rattle.cutting.specs.Dissection.{Line, Earns, Best}
-use Rattle.cutting.specs.Points.{P, Narrowed}
-use Rattle.cutting.specs.Candidate.{Candidate, Worth, Smaller, BestBelow}
+use Rattle.cutting.specs.Points.{Narrowed}
+use Rattle.cutting.specs.Candidate.{BestSmaller}
+use Rattle.cutting.specs.Candidate.{Candidate, Worth}
 use Rattle.cutting.proofs.Dissection.{turned, best-turned, enlarged}
 use Rattle.cutting.proofs.Points.{narrowed-width, P-wider}
 
@@ -32,11 +32,11 @@ candidate-turned (Candidate.horizontal p h l) = Candidate.vertical p h l
 matched-turned : {lay : Lay} {a b : ℕ} {cell : ℕ → ℕ → ℕ} {u w e : ℕ} → Matched lay a b cell u w e → Matched (Turned lay) b a (flip cell) w u e
 matched-turned m = record { worth = m .worth; candidate = candidate-turned (m .candidate); enough = m .enough }
 
-below-turned : {lay : Lay} {cell : ℕ → ℕ → ℕ} (u w : ℕ) → BestBelow lay cell u w → BestBelow (Turned lay) (flip cell) w u
+below-turned : {lay : Lay} {cell : ℕ → ℕ → ℕ} (u w : ℕ) → BestSmaller lay cell u w → BestSmaller (Turned lay) (flip cell) w u
 below-turned u w below x y s =
     best-turned (below y x (record { inside = omega arith; less = omega arith }))
 
-module _ (lay : Lay) (a b : ℕ) (cell : ℕ → ℕ → ℕ) (u w : ℕ) (inside : Inside u w a b) (below : BestBelow lay cell u w) where
+module _ (lay : Lay) (a b : ℕ) (cell : ℕ → ℕ → ℕ) (u w : ℕ) (inside : Inside u w a b) (below : BestSmaller lay cell u w) where
   -- What is earned inside u by w, in a strictly narrower rectangle, its cell has at least.
   cell-has : {x y e : ℕ} (z : ℕ) → 1 ≤ x → x ≤ z → 1 ≤ y → y ≤ w → z < u → Earns lay x y e → e ≤ cell z w
   cell-has {e = e} z p h q k l d =
@@ -61,7 +61,7 @@ module _ (lay : Lay) (a b : ℕ) (cell : ℕ → ℕ → ℕ) (u w : ℕ) (insid
       (le-or-lt c r)
 
 -- Each dissection of a rectangle inside u by w is matched by a candidate of (u, w).
-matched : (lay : Lay) (a b : ℕ) (cell : ℕ → ℕ → ℕ) (u w : ℕ) → Inside u w a b → BestBelow lay cell u w → {x y e : ℕ} → Inside x y u w → Earns lay x y e → Matched lay a b cell u w e
+matched : (lay : Lay) (a b : ℕ) (cell : ℕ → ℕ → ℕ) (u w : ℕ) → Inside u w a b → BestSmaller lay cell u w → {x y e : ℕ} → Inside x y u w → Earns lay x y e → Matched lay a b cell u w e
 matched lay a b cell u w j below i Earns.scrap =
     record { worth = 0; candidate = Candidate.nothing; enough = omega arith }
 matched lay a b cell u w j below i (Earns.piece {v = v} h) =
@@ -77,7 +77,7 @@ matched lay a b cell u w j below i (Earns.horizontal l s t) =
     (matched-turned (matched lay a b cell u w j below (omega arith) t)))
 
 -- Each candidate is earned by a dissection.
-earned : (lay : Lay) → InRange lay → (a b : ℕ) (cell : ℕ → ℕ → ℕ) (u w : ℕ) → Inside u w a b → BestBelow lay cell u w → {v : ℕ} → Candidate lay a b cell u w v → Earns lay u w v
+earned : (lay : Lay) → InRange lay → (a b : ℕ) (cell : ℕ → ℕ → ℕ) (u w : ℕ) → Inside u w a b → BestSmaller lay cell u w → {v : ℕ} → Candidate lay a b cell u w v → Earns lay u w v
 earned lay range a b cell u w j below Candidate.nothing = Earns.scrap
 earned lay range a b cell u w j below (Candidate.fitting {p = p} {q = q} {v = v} h f) =
     let g = range p q v h in
@@ -92,8 +92,8 @@ earned lay range a b cell u w j below (Candidate.horizontal {d = d} {r = r} p h 
     (below u r (record { inside = omega arith; less = omega arith }) .attained)
 
 module _ (lay : Lay) (range : InRange lay) (a b : ℕ) (cell : ℕ → ℕ → ℕ) where
-  -- Theorem 3: the rule gives the best value.
-  pub rule : (u w v : ℕ) → Inside u w a b → BestBelow lay cell u w → Worth lay a b cell u w v → Best lay u w v
+  -- The rule gives the best value.
+  pub rule : (u w v : ℕ) → Inside u w a b → BestSmaller lay cell u w → Worth lay a b cell u w v → Best lay u w v
   rule u w v j below l =
       record {
         attained = earned lay range a b cell u w j below (l .attained);
@@ -103,8 +103,8 @@ module _ (lay : Lay) (range : InRange lay) (a b : ℕ) (cell : ℕ → ℕ → �
       covered : (e : ℕ) → Matched lay a b cell u w e → e ≤ v
       covered e m = omega (arith, l .bound (m .worth) (m .candidate), m .enough)
 
-  -- Theorem 3, second half: the best value is itself a candidate, and the largest (so tree rule 6 never strikes).
-  pub best-is-worth : (u w v : ℕ) → Inside u w a b → BestBelow lay cell u w → Best lay u w v → Worth lay a b cell u w v
+  -- The best value is itself a candidate, and the largest (so tree rule 6 never strikes).
+  pub best-is-worth : (u w v : ℕ) → Inside u w a b → BestSmaller lay cell u w → Best lay u w v → Worth lay a b cell u w v
   best-is-worth u w v j below d =
       record {
         attained = found (matched lay a b cell u w j below (omega arith) (d .attained));
@@ -121,7 +121,7 @@ module _ (lay : Lay) (range : InRange lay) (a b : ℕ) (cell : ℕ → ℕ → �
   pub table-best : (x y : ℕ) → x ≤ a → y ≤ b → ((u w : ℕ) → Inside u w x y → Worth lay a b cell u w (cell u w) ⊎ Best lay u w (cell u w)) → (u w : ℕ) → Inside u w x y → Best lay u w (cell u w)
   table-best x y g h each u w i = go (u + w) u w (omega arith) i
     where
-      step : (u w : ℕ) → Inside u w x y → BestBelow lay cell u w → Best lay u w (cell u w)
+      step : (u w : ℕ) → Inside u w x y → BestSmaller lay cell u w → Best lay u w (cell u w)
       step u w i below = ⊎-elim (rule u w (cell u w) (omega arith) below) (λ d. d) (each u w i)
 
       go : (k u w : ℕ) → u + w ≤ k → Inside u w x y → Best lay u w (cell u w)

@@ -1,15 +1,16 @@
--- Trees and dissections earn the same, and a valid tree's areas make width times height.
+-- Trees and dissections earn the same; a valid tree's areas make width times height, and its nodes are few.
 use Prim.Native.Nat.{ℕ, _+_, _-_, _*_, _≤_}
 use mathlib.Core.Path.{_≡_, refl, sym, _∙_, subst, ap, ap₂}
 use mathlib.Core.Logic.{_↔_}
 use mathlib.Core.List.{List}
 use native.Mathlib.Omega.{arith}
-use native.Mathlib.Nat.{add-mul}
+use native.Mathlib.Nat.{add-mul, mul-le-mul}
 use Rattle.laws.specs.Largest.{Largest}
 use Rattle.laws.proofs.Largest.{largest-same}
-use Rattle.cutting.specs.Piece.{Piece, pieceAt, Numbered, Lays}
-use Rattle.cutting.specs.Dissection.{rest, Line, Earns, Best}
-use Rattle.cutting.specs.Tree.{Tree, Valid, earning, pieceArea, scrapArea, TreeEarns}
+use Rattle.cutting.specs.Piece.{Piece, Lays}
+use Rattle.cutting.specs.Dissection.{Line, Earns, Best}
+use Rattle.cutting.specs.Tree.{Tree, Valid, earning, nodes, pieceArea, scrapArea}
+use Rattle.cutting.specs.Tree.{TreeEarns}
 
 -- A valid tree is a dissection that earns what its leaves say.
 pub dissection-of : {pieces : List Piece} {t : Tree} {x y : ℕ} → Valid pieces t x y → Earns (Lays pieces) x y (earning pieces t)
@@ -46,7 +47,7 @@ parts-area x y c r l =
     let whole : c + r ≡ x = omega arith in
     sym (add-mul c r y) ∙ ap (λ (k : ℕ). k * y) whole
 
--- Theorem 6: "it is proved that together they make width times height".
+-- "it is proved that together they make width times height".
 pub areas : {pieces : List Piece} {t : Tree} {x y : ℕ} → Valid pieces t x y → pieceArea pieces t + scrapArea t x y ≡ x * y
 unfolding pieceArea scrapArea
 areas {x = x} {y = y} (Valid.lineV {c = c} {r = r} {t = t} l m n) =
@@ -55,3 +56,20 @@ areas {x = x} {y = y} (Valid.lineH {d = d} {r = r} {t = t} l m n) =
     omega (arith, areas m, areas n, ap (λ (k : ℕ). scrapArea t x k) (l .leaves), parts-area y x d r l)
 areas (Valid.pieceP n) = omega (arith, ap₂ _*_ (n .width) (n .height))
 areas Valid.scrapS = omega arith
+
+-- A leaf has a unit of area at least, and a tree has one line less than leaves.
+leaf-few : (x y : ℕ) → 1 ≤ x → 1 ≤ y → 1 + 1 ≤ 2 * (x * y)
+leaf-few x y h k = omega (arith, mul-le-mul {n₁ = 1} {m₁ = 1} h k)
+
+within-area : {pieces : List Piece} {t : Tree} {x y : ℕ} → Valid pieces t x y → 1 ≤ x → 1 ≤ y → nodes t + 1 ≤ 2 * (x * y)
+unfolding nodes
+within-area {x = x} {y = y} (Valid.lineV {c = c} {r = r} l m n) h k =
+    omega (arith, within-area m (l .least) k, within-area n (omega arith) k, parts-area x y c r l)
+within-area {x = x} {y = y} (Valid.lineH {d = d} {r = r} l m n) h k =
+    omega (arith, within-area m h (l .least), within-area n h (omega arith), parts-area y x d r l)
+within-area {x = x} {y = y} (Valid.pieceP n) h k = leaf-few x y h k
+within-area {x = x} {y = y} Valid.scrapS h k = leaf-few x y h k
+
+-- A tree of x by y, "(both at least 1)", has at most 2·x·y − 1 nodes.
+pub nodes-few : {pieces : List Piece} {t : Tree} {x y : ℕ} → Valid pieces t x y → 1 ≤ x → 1 ≤ y → nodes t ≤ 2 * (x * y) - 1
+nodes-few v h k = omega (arith, within-area v h k)

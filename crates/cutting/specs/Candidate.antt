@@ -30,5 +30,5 @@ pub record Smaller (x y u w : ℕ) : Type 0 where
   pub less : x + y < u + w
 
 -- "all smaller rectangles' numbers are best values"
-abbrev pub BestBelow : Lay → (ℕ → ℕ → ℕ) → ℕ → ℕ → Type 0
-BestBelow lay cell u w = (x y : ℕ) → Smaller x y u w → Best lay x y (cell x y)
+abbrev pub BestSmaller : Lay → (ℕ → ℕ → ℕ) → ℕ → ℕ → Type 0
+BestSmaller lay cell u w = (x y : ℕ) → Smaller x y u w → Best lay x y (cell x y)

@@ -2,7 +2,7 @@
 use Prim.Native.Nat.{ℕ, _-_}
 use mathlib.Core.List.{List, [], _∷_, _++_}
 use lib.ListN.{take, drop, set}
-use Rattle.cutting.specs.Piece.{Piece}
+use Rattle.cutting.specs.Piece.{Piece, Lay, Fits}
 
 unfoldable pub added : List Piece → Piece → List Piece
 added pieces new = pieces ++ (new ∷ [])
@@ -12,3 +12,11 @@ corrected pieces k new = set pieces (k - 1) new
 
 unfoldable pub removed : List Piece → ℕ → List Piece
 removed pieces k = take (k - 1) pieces ++ drop k pieces
+
+-- The size of the piece does not fit in x by y.
+abbrev pub TooLarge : Piece → ℕ → ℕ → Type 0
+TooLarge piece x y = Fits (piece .width) (piece .height) x y → ⊥
+
+-- Every size of the one lay that fits in x by y may lie in the other too, for the same value.
+abbrev pub CoveredBy : Lay → Lay → ℕ → ℕ → Type 0
+CoveredBy lay other x y = (p q v : ℕ) → Fits p q x y → lay p q v → other p q v

@@ -1,4 +1,4 @@
--- What a reader must believe: the definitions of document 01, in its order and words. Nothing is proved here.
+-- The definitions of document 01, in its order and words. Nothing is proved here.
 pub mod Limits
 pub mod Piece
 pub mod Dissection
@@ -6,5 +6,4 @@ pub mod Points
 pub mod Candidate
 pub mod Change
 pub mod Tree
-pub mod BestValue
-pub mod Sheets
+pub mod Inner

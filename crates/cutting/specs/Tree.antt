@@ -26,6 +26,13 @@ earning pieces (Tree.lineH d s t) = earning pieces s + earning pieces t
 earning pieces (Tree.pieceP k) = pieceAt pieces k .value
 earning pieces Tree.scrapS = 0
 
+-- How many nodes it has: each line, piece and scrap is one.
+unfoldable pub nodes : Tree → ℕ
+nodes (Tree.lineV c s t) = 1 + nodes s + nodes t
+nodes (Tree.lineH d s t) = 1 + nodes s + nodes t
+nodes (Tree.pieceP k) = 1
+nodes Tree.scrapS = 1
+
 -- "piece area and scrap area. Each area is the sum over its own leaves".
 unfoldable pub pieceArea : List Piece → Tree → ℕ
 pieceArea pieces (Tree.lineV c s t) = pieceArea pieces s + pieceArea pieces t

@@ -1,38 +1,36 @@
 -- Only the cells of the sheet matter: tables that agree on them get the same answers, and agree still.
 -- "Entries beyond a·b are no cells of the sheet": they are never read.
-use Prim.Native.Nat.{ℕ, zero, suc, _*_, _≤_, _<_}
+use Prim.Native.Nat.{ℕ, zero, suc, _*_, _≤_}
 use mathlib.Core.Bool.{Bool, true, false, cond, _&&_}
 use mathlib.Core.List.{List, []}
-use mathlib.Core.Path.{_≡_, refl, sym, ap, ap₂, _∙_, subst}
+use mathlib.Core.Path.{_≡_, refl, sym, ap, _∙_, subst}
 use native.Mathlib.Omega.{arith}
 use lib.ListN.{length}
-use lib.Dec.{ltb, eqb}
-use Rattle.laws.specs.Says.{Says}
+use lib.Dec.{eqb}
+use Rattle.laws.specs.Inner.{Says}
 use Rattle.laws.proofs.Says.{says-lt, says-no, says-false}
 use Rattle.cutting.specs.Piece.{Fits, Inside}
 use Rattle.cells.specs.Cells.{empty, cellOf}
-use Rattle.cells.specs.Emptied.{fits, emptied, emptiedWhere}
-use Rattle.cells.specs.Box.{isEmpty, exceeds, tooMuch, anyInBox, countInBox}
+use Rattle.cells.specs.Inner.{fits, emptiedWhere, exceeds, tooMuch, anyInBox}
+use Rattle.cells.specs.Box.{isEmpty, countInBox}
 use Rattle.cells.proofs.Emptied.{fits-says, emptiedWhere-cell, emptiedWhere-length}
 use Rattle.cells.proofs.Box.{anyInBox-same, countInBox-same}
-use Rattle.points.specs.Rows.{Rows}
-use Rattle.fill.specs.Worth.{worthOf}
-use Rattle.fill.specs.Filled.{final, filled}
+use Rattle.points.specs.Inner.{Rows}
+use Rattle.fill.specs.Inner.{worthOf, final, filled}
 use Rattle.fill.proofs.Filled.{settled, final-only, final-own, filled-inside, filled-outside}
 use Rattle.fill.proofs.Growing.{filled-length}
-use Rattle.job.specs.declared.Piece.{Piece as Record}
 use Rattle.job.specs.declared.Job.{Job}
-use Rattle.job.specs.Range.{jobInRange, within}
-use Rattle.desk.specs.Refusals.{orElse, accepted, area, jobRefused, addRefused, removeRefused, correctRefused, askRefused, JobRefusal}
-use Rattle.desk.specs.Changing.{changed}
-use Rattle.desk.specs.Asking.{answerWith, jobRows, filledFor, asked, askedCells}
+use Rattle.job.specs.Inner.{jobInRange, within}
+use Rattle.desk.specs.Refusals.{area, JobRefusal}
+use Rattle.desk.specs.Inner.{orElse, accepted, jobRefused, askRefused, changed, answerWith, jobRows, filledFor, asked, askedCells}
 use Rattle.desk.proofs.Exactly.{inside-says, job-refusal, usable}
-use Rattle.tracer.specs.Choice.{by}
+use Rattle.tracer.specs.Inner.{by}
 use Rattle.tracer.proofs.Depth.{Real}
 use Rattle.tracer.proofs.Same.{SameCells, traced-same, traces-same}
 use Rattle.checker.specs.PlanFile.{planBytes}
-use Rattle.plan.specs.File.{planFile, sheetOf}
-use Rattle.plan.specs.Refusals.{boxRefused, fileRefused, planRefused, PlanRefusal}
+use Rattle.plan.specs.File.{sheetOf}
+use Rattle.plan.specs.Inner.{planFile, boxRefused, fileRefused, planRefused}
+use Rattle.plan.specs.Refusals.{PlanRefusal}
 use Rattle.plan.proofs.Exactly.{plan-only}
 use Rattle.demands.specs.Script.{Said, emptyCells}
 

@@ -1,105 +1,67 @@
 -- Demand 3 and the first half of demand 2, over every history of calls whose answers keep their promises.
-use Prim.Native.Nat.{ℕ, zero, suc, _*_, _≤_}
-use mathlib.Core.List.{List, []}
+use Prim.Native.Nat.{ℕ}
+use mathlib.Core.Bool.{true}
+use mathlib.Core.List.{List}
 use mathlib.Core.Logic.{_⊎_, inl, inr, ⊎-elim, _↔_}
-use mathlib.Core.Path.{_≡_, refl, sym, ap, _∙_, subst}
+use mathlib.Core.Path.{_≡_, refl, sym, _∙_, subst}
 use native.Mathlib.Omega.{arith}
-use native.Mathlib.Decide.{ℕ-discrete}
-use lib.ListN.{length}
-use Rattle.cutting.specs.Piece.{Fits, Inside}
-use Rattle.cells.specs.Cells.{empty, cellOf}
+use Rattle.cutting.specs.Piece.{Fits}
 use Rattle.cells.specs.Box.{isEmpty, countInBox}
-use Rattle.cells.specs.Emptied.{emptied}
-use Rattle.cells.proofs.Emptied.{emptied-whole, emptied-length}
-use Rattle.job.specs.declared.Piece.{Piece as Record}
+use Rattle.cells.proofs.Box.{isEmpty-says, countInBox-zero}
+use Rattle.laws.proofs.Says.{says-no}
 use Rattle.job.specs.declared.Job.{Job}
-use Rattle.job.specs.Job.{jobOf, zeroJob}
-use Rattle.job.proofs.Range.{new-in-range}
-use Rattle.desk.specs.declared.Changed.{Changed}
-use Rattle.desk.specs.declared.Asked.{Asked}
-use Rattle.desk.specs.Refusals.{accepted, openRefused, askRefused, Usable}
-use Rattle.desk.specs.Changing.{opened, openedCells}
-use Rattle.desk.specs.Asking.{Numbers, numbersOf, answerWith, filledFor, asked, askedCells}
-use Rattle.desk.specs.Promise.{OpenPromise, AskPromise}
-use Rattle.desk.proofs.Answers.{given, left-as-it-was}
-use Rattle.desk.proofs.Granted.{open-granted, AskGranted, ask-granted}
-use Rattle.demands.specs.History.{History, Covered, cell, Filled, OnSheet, BestFor}
-use Rattle.demands.proofs.Outcome.{Kept, outcome-kept, outcome-filled}
-use Rattle.demands.proofs.Changes.{add-outcome, correct-outcome, remove-outcome}
-use Rattle.demands.proofs.Questions.{kept-answered, box-best, asked-filled, asked-kept}
+use Rattle.job.specs.Block.{blockOf, jobIn, BlockShape}
+use Rattle.job.specs.Inner.{fromBlock}
+use Rattle.job.proofs.Blocks.{from-block-yes, shape-says}
+use Rattle.desk.specs.Refusals.{JobRefusal, AskRefusal}
+use Rattle.khonvertseg.specs.declared.KhonAsked.{KhonAsked}
+use Rattle.khonvertseg.specs.Calls.{KhonAsks}
+use Rattle.demands.specs.History.{History, Covered, SameSheet, cell, Filled, OnSheet, BestFor}
+use Rattle.demands.proofs.Outcome.{Kept, kept-block, outcome-kept, outcome-filled}
+use Rattle.demands.proofs.Changes.{add-outcome, correct-outcome, remove-outcome, open-outcome}
+use Rattle.demands.proofs.Questions.{Question, question, kept-bounded, kept-answered, box-best, asked-filled, asked-kept}
 
--- An opened sheet is kept: no cell of it is filled.
-record Opened (job : Job) (t : List ℕ) : Type 0 where
-  pub usable : Usable job t
-  pub none : (u w : ℕ) → OnSheet job u w → cell job t u w ≡ empty
+question-kept : {job : Job} {t : List ℕ} {x y : ℕ} {r : KhonAsked} {t' : List ℕ} → Kept job t → Question job t x y r t' → Kept job t'
+question-kept {job} {t} {x} {y} k (Question.answered z i f v n) = asked-kept job t k x y i f
+question-kept {job} k (Question.refused h q v n e) = subst (Kept job) (sym e) k
 
-open-outcome : (a b : ℕ) (t : List ℕ) {r : Changed} {t' : List ℕ} → OpenPromise a b t r t' → r .refusal ≡ 0 → Opened (r .job) t'
-unfolding opened openedCells jobOf
-open-outcome a b t {r} {t'} p e =
-    subst (λ (j : Job). Opened j t') (given (jobOf a b []) zeroJob refl z ∙ sym (ap (λ (c : Changed). c .job) (p .0)))
-    (subst (Opened (jobOf a b [])) (given (emptied a b 1 1 t) t refl z ∙ sym (p .1)) fresh)
-  where
-    z : openRefused a b t ≡ 0
-    z = sym (ap (λ (c : Changed). c .refusal) (p .0)) ∙ e
-
-    fresh : Opened (jobOf a b []) (emptied a b 1 1 t)
-    fresh =
-        let h = open-granted a b t refl z in
-        record {
-          usable = record { range = new-in-range a b (record { least = h .widthLeast; most = h .widthMost }) (record { least = h .heightLeast; most = h .heightMost }); room = omega (arith, h .room, emptied-length a b 1 1 t) };
-          none = λ u w i. emptied-whole t (h .room) i;
-        }
-
--- What an answer to a question says: its number, and, where it is 0, the cell's value and the count.
-asked-numbers : (job : Job) (t : List ℕ) (x y : ℕ) {r : Asked} → r ≡ asked job t x y → (k : ℕ) → askRefused job t x y ≡ k → numbersOf r ≡ numbersOf (answerWith k (cell job (filledFor job t x y) x y) (countInBox x y (isEmpty (job .width) t)))
-unfolding asked
-asked-numbers job t x y e k h = ap numbersOf e ∙ ap (λ (n : ℕ). numbersOf (answerWith n (cell job (filledFor job t x y) x y) (countInBox x y (isEmpty (job .width) t)))) h
-
-asked-refusal : (job : Job) (t : List ℕ) (x y : ℕ) {r : Asked} → r ≡ asked job t x y → numbersOf r .refusal ≡ askRefused job t x y
-asked-refusal job t x y e = ap (λ (n : Numbers). n .refusal) (asked-numbers job t x y e (askRefused job t x y) refl) ∙ same (askRefused job t x y)
-  where
-    same : (k : ℕ) → numbersOf (answerWith k (cell job (filledFor job t x y) x y) (countInBox x y (isEmpty (job .width) t))) .refusal ≡ k
-    same zero = refl
-    same (suc k) = refl
-
--- A question leaves the table as it was, or filled.
-pub data Question (job : Job) (t : List ℕ) (x y : ℕ) (refusal : ℕ) (t' : List ℕ) : Type 0 where
-  answered : refusal ≡ 0 → OnSheet job x y → t' ≡ filledFor job t x y → Question job t x y refusal t'
-  refused : (refusal ≡ 0 → ⊥) → t' ≡ t → Question job t x y refusal t'
-
-question : (job : Job) (t : List ℕ) (x y : ℕ) {r : Asked} {t' : List ℕ} → AskPromise job t x y r t' → Question job t x y (numbersOf r .refusal) t'
-unfolding askedCells
-question job t x y {r} {t'} p = by (ℕ-discrete (askRefused job t x y) 0)
-  where
-    number : numbersOf r .refusal ≡ askRefused job t x y
-    number = asked-refusal job t x y (p .0)
-
-    by : Dec (askRefused job t x y ≡ 0) → Question job t x y (numbersOf r .refusal) t'
-    by (yes z) = Question.answered (number ∙ z) (ask-granted job t x y refl z .inside) (p .1 ∙ sym (given (filledFor job t x y) t refl z))
-    by (no h) = Question.refused (λ z. h (sym number ∙ z)) (p .1 ∙ sym (left-as-it-was (filledFor job t x y) t refl h))
-
-question-kept : {job : Job} {t : List ℕ} {x y refusal : ℕ} {t' : List ℕ} → Kept job t → Question job t x y refusal t' → Kept job t'
-question-kept {job} {t} {x} {y} k (Question.answered z i e) = subst (Kept job) (sym e) (asked-kept job t k x y i)
-question-kept {job} k (Question.refused h e) = subst (Kept job) (sym e) k
-
-question-filled : {job : Job} {t : List ℕ} {x y refusal : ℕ} {t' : List ℕ} → Kept job t → Question job t x y refusal t' → (u w : ℕ) → OnSheet job u w → Filled job t' u w ↔ (Filled job t u w ⊎ ((refusal ≡ 0) × Fits u w x y))
-question-filled {job} {t} {x} {y} {refusal} k (Question.answered z i e) u w j =
-    let g = asked-filled job t k x y i u w j in
-    subst (λ (l : List ℕ). Filled job l u w ↔ (Filled job t u w ⊎ ((refusal ≡ 0) × Fits u w x y))) (sym e)
-    ((λ f. ⊎-elim inl (λ m. inr (z, m)) (g .0 f)), (λ m. g .1 (⊎-elim inl (λ n. inr (n .1)) m)))
-question-filled {job} {t} {x} {y} {refusal} k (Question.refused h e) u w j =
-    subst (λ (l : List ℕ). Filled job l u w ↔ (Filled job t u w ⊎ ((refusal ≡ 0) × Fits u w x y))) (sym e)
+question-filled : {job : Job} {t : List ℕ} {x y : ℕ} {r : KhonAsked} {t' : List ℕ} → Kept job t → Question job t x y r t' → (u w : ℕ) → OnSheet job u w → Filled job t' u w ↔ (Filled job t u w ⊎ ((r .refusal ≡ 0) × Fits u w x y))
+question-filled {job} {t} {x} {y} k (Question.answered z i f v n) u w j =
+    let g = asked-filled job t k x y i f u w j in
+    ((λ m. ⊎-elim inl (λ o. inr (z, o)) (g .0 m)), (λ m. g .1 (⊎-elim inl (λ o. inr (o .1)) m)))
+question-filled {job} {t} {x} {y} {r} k (Question.refused h q v n e) u w j =
+    subst (λ (l : List ℕ). Filled job l u w ↔ (Filled job t u w ⊎ ((r .refusal ≡ 0) × Fits u w x y))) (sym e)
     (inl, (⊎-elim (λ f. f) (λ m. absurd (h (m .0)))))
+
+-- Another row with the same cells.
+elsewhere-kept : {job : Job} {t t' : List ℕ} → Kept job t → SameSheet job t t' → Kept job t'
+elsewhere-kept {job} k s =
+    record {
+      usable = record { range = k .usable .range; room = s .room };
+      tidy = k .tidy;
+      best = λ u w i f. subst (BestFor job u w) (sym (s .cells u w i)) (k .best u w i (λ e. f (s .cells u w i ∙ e)));
+    }
 
 -- The table of a history is kept.
 pub history-kept : {job : Job} {t : List ℕ} → History job t → Kept job t
 history-kept (History.opening a b t p e) =
     let o = open-outcome a b t p e in
-    record { usable = o .usable; best = λ u w i f. absurd (f (o .none u w i)) }
+    record { usable = o .usable; tidy = o .tidy; best = λ u w i f. absurd (f (o .none u w i)) }
 history-kept (History.adding {job = job} {t = t} h piece p) = outcome-kept (history-kept h) (add-outcome job t piece p)
 history-kept (History.correcting {job = job} {t = t} h k piece p) = outcome-kept (history-kept h) (correct-outcome job t k piece p)
 history-kept (History.removing {job = job} {t = t} h k p) = outcome-kept (history-kept h) (remove-outcome job t k p)
-history-kept (History.asking {job = job} {t = t} h x y p) = question-kept (history-kept h) (question job t x y p)
+history-kept (History.asking h x y p) = question-kept (history-kept h) (question (history-kept h) x y p)
+history-kept (History.elsewhere h s) = elsewhere-kept (history-kept h) s
+
+-- Along a history the job is the job of its own block: what the C customer hands over as bytes is what he was given.
+pub history-block : {job : Job} {t : List ℕ} → History job t → BlockShape (blockOf job) × (jobIn (blockOf job) ≡ job)
+history-block h = kept-block (history-kept h)
+
+-- The same of what the code reads.
+pub history-from-block : {job : Job} {t : List ℕ} → History job t → fromBlock (blockOf job) ≡ record { ok = true; job = job }
+history-from-block {job} h =
+    let own = history-block h in
+    sym (from-block-yes (blockOf job) (sym (shape-says (blockOf job) .found (own .0))) refl (sym (own .1)))
 
 -- Two equivalences, one after the other.
 both : {A B C E : Type 0} → A ↔ (B × E) → B ↔ C → A ↔ (C × E)
@@ -118,30 +80,56 @@ pub demand-3-filled : {job : Job} {t : List ℕ} (h : History job t) (u w : ℕ)
 unfolding Covered
 demand-3-filled (History.opening a b t p e) u w i = ((λ f. f (open-outcome a b t p e .none u w i)), (λ n. absurd n))
 demand-3-filled (History.adding {job = job} {t = t} h piece p) u w i =
-    let o = outcome-filled (history-kept h .usable) (add-outcome job t piece p) u w i in
+    let o = outcome-filled (add-outcome job t piece p) u w i in
     both (o .1) (demand-3-filled h u w (o .0))
 demand-3-filled (History.correcting {job = job} {t = t} h k piece p) u w i =
-    let o = outcome-filled (history-kept h .usable) (correct-outcome job t k piece p) u w i in
+    let o = outcome-filled (correct-outcome job t k piece p) u w i in
     both (o .1) (demand-3-filled h u w (o .0))
 demand-3-filled (History.removing {job = job} {t = t} h k p) u w i =
-    let o = outcome-filled (history-kept h .usable) (remove-outcome job t k p) u w i in
+    let o = outcome-filled (remove-outcome job t k p) u w i in
     both (o .1) (demand-3-filled h u w (o .0))
-demand-3-filled (History.asking {job = job} {t = t} h x y p) u w i =
-    either (question-filled (history-kept h) (question job t x y p) u w i) (demand-3-filled h u w i)
+demand-3-filled (History.asking h x y p) u w i =
+    either (question-filled (history-kept h) (question (history-kept h) x y p) u w i) (demand-3-filled h u w i)
+demand-3-filled (History.elsewhere h s) u w i =
+    let g = demand-3-filled h u w i in
+    ((λ f. g .0 (λ e. f (s .cells u w i ∙ e))), (λ c e. g .1 c (sym (s .cells u w i) ∙ e)))
 
 -- DEMAND 3, third part: "the work reported is the number of cells that were empty under the question"; refusals report 0.
-pub demand-3-work : (job : Job) (t : List ℕ) (x y : ℕ) {r : Asked} {t' : List ℕ} → AskPromise job t x y r t' → (numbersOf r .refusal ≡ 0 → numbersOf r .worked ≡ countInBox x y (isEmpty (job .width) t)) × ((numbersOf r .refusal ≡ 0 → ⊥) → (numbersOf r .worked ≡ 0) × (numbersOf r .value ≡ 0))
-demand-3-work job t x y {r} p =
-    ((λ z. ap (λ (n : Numbers). n .worked) (asked-numbers job t x y (p .0) 0 (sym (asked-refusal job t x y (p .0)) ∙ z))), (λ h. none (askRefused job t x y) refl (λ z. h (asked-refusal job t x y (p .0) ∙ z))))
+pub demand-3-work : {job : Job} {t : List ℕ} → History job t → (x y : ℕ) {r : KhonAsked} {t' : List ℕ} → KhonAsks (blockOf job) t x y r t' → (r .refusal ≡ 0 → r .worked ≡ countInBox x y (isEmpty (job .width) t)) × ((r .refusal ≡ 0 → ⊥) → r .worked ≡ 0)
+demand-3-work {job} {t} h x y p = by (question (history-kept h) x y p)
   where
-    none : (k : ℕ) → askRefused job t x y ≡ k → (askRefused job t x y ≡ 0 → ⊥) → (numbersOf r .worked ≡ 0) × (numbersOf r .value ≡ 0)
-    none zero e h = absurd (h e)
-    none (suc k) e h = let m = asked-numbers job t x y (p .0) (suc k) e in (ap (λ (n : Numbers). n .worked) m, ap (λ (n : Numbers). n .value) m)
+    by : {r : KhonAsked} {t' : List ℕ} → Question job t x y r t' → (r .refusal ≡ 0 → r .worked ≡ countInBox x y (isEmpty (job .width) t)) × ((r .refusal ≡ 0 → ⊥) → r .worked ≡ 0)
+    by (Question.answered z i f v n) = ((λ _. n), (λ h. absurd (h z)))
+    by (Question.refused h q v n e) = ((λ z. absurd (h z)), (λ _. n))
 
 -- DEMAND 2, first half: "On a kept table every question inside the sheet is answered, and the value is the most that any
 -- guillotine dissection at whole-unit positions can earn." (So refusal 7 never arises there.)
-pub demand-2-answered : {job : Job} {t : List ℕ} → History job t → (x y : ℕ) → OnSheet job x y → {r : Asked} {t' : List ℕ} → AskPromise job t x y r t' → (numbersOf r .refusal ≡ 0) × BestFor job x y (numbersOf r .value)
-demand-2-answered {job} {t} h x y i {r} p =
-    let k = history-kept h in
-    let z = kept-answered job t k x y i in
-    (asked-refusal job t x y (p .0) ∙ z, subst (BestFor job x y) (sym (ap (λ (n : Numbers). n .value) (asked-numbers job t x y (p .0) 0 z))) (box-best job t k x y i x y (omega (arith, i))))
+pub demand-2-answered : {job : Job} {t : List ℕ} → History job t → (x y : ℕ) → OnSheet job x y → {r : KhonAsked} {t' : List ℕ} → KhonAsks (blockOf job) t x y r t' → (r .refusal ≡ 0) × BestFor job x y (r .value)
+demand-2-answered {job} {t} h x y i p = by (question (history-kept h) x y p)
+  where
+    by : {r : KhonAsked} {t' : List ℕ} → Question job t x y r t' → (r .refusal ≡ 0) × BestFor job x y (r .value)
+    by (Question.answered z j f v n) = (z, subst (BestFor job x y) (sym v) (box-best job t (history-kept h) x y i f x y (omega (arith, i))))
+    by (Question.refused h' q v n e) = absurd (h' (kept-answered job t (history-kept h) x y i q))
+
+-- "On a table kept so, refusal 7 never arises": no question gets it, inside the sheet or not.
+pub ask-never-seven : {job : Job} {t : List ℕ} → History job t → (x y : ℕ) {r : KhonAsked} {t' : List ℕ} → KhonAsks (blockOf job) t x y r t' → r .refusal ≡ 7 → ⊥
+ask-never-seven {job} {t} h x y p e = by (question (history-kept h) x y p) e
+  where
+    seven : {k : ℕ} → AskRefusal job t x y k → k ≡ 7 → ⊥
+    seven (AskRefusal.job (JobRefusal.job n)) z = omega arith
+    seven (AskRefusal.job (JobRefusal.table r n)) z = omega arith
+    seven (AskRefusal.question u n) z = omega arith
+    seven (AskRefusal.excess u i n) z = n (kept-bounded job t (history-kept h) x y i)
+    seven (AskRefusal.none u i b) z = omega arith
+
+    by : {r : KhonAsked} {t' : List ℕ} → Question job t x y r t' → r .refusal ≡ 7 → ⊥
+    by (Question.answered z i f v n) e = omega arith
+    by (Question.refused n q v w f) e = seven q e
+
+-- The second of two equal questions works out none.
+pub demand-3-again : {job : Job} {t : List ℕ} → History job t → (x y : ℕ) → OnSheet job x y → {r s : KhonAsked} {t' t″ : List ℕ} → KhonAsks (blockOf job) t x y r t' → KhonAsks (blockOf job) t' x y s t″ → s .worked ≡ 0
+unfolding Covered
+demand-3-again {job} h x y i {t' = t'} p q =
+    let after = History.asking h x y p in
+    demand-3-work after x y q .0 (demand-2-answered after x y i q .0)
+    ∙ countInBox-zero x y (isEmpty (job .width) t') (λ u w j. says-no (isEmpty-says (job .width) t' u w) (demand-3-filled after u w (omega arith) .1 (inr (demand-2-answered h x y i p .0, omega arith))))

@@ -1,9 +1,10 @@
--- The three demands.
+-- The three demands, the sheets, and the libraries that break a promise.
 pub mod Outcome
 pub mod Changes
 pub mod Questions
+pub mod Refuses
 pub mod Demands
+pub mod Plans
 pub mod Agree
 pub mod Sheets
 pub mod Impostors
-pub mod Plans

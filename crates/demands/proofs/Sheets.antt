@@ -1,5 +1,5 @@
--- K1 to K8 through the calls: what any library that keeps the promises says.
-use Prim.Native.Nat.{ℕ, zero, suc, _+_, _*_, _≤_, _<_}
+-- K1 to K10 through the calls: what any library that keeps the promises says.
+use Prim.Native.Nat.{ℕ, zero, suc, _+_, _*_, _≤_}
 use mathlib.Core.Bool.{_||_}
 use mathlib.Core.List.{List, [], _∷_}
 use mathlib.Core.Path.{_≡_, refl, sym, ap, ap₂, _∙_, subst}
@@ -7,52 +7,56 @@ use native.Mathlib.Omega.{arith}
 use native.Mathlib.Nat.{zero-add}
 use lib.ListN.{length, getD, take, replicate, length-replicate}
 use Rattle.cells.proofs.Emptied.{emptied-whole, emptied-length}
-use Rattle.laws.specs.Below.{allBelow, anyBelow, bestBelow, sumBelow}
+use Rattle.laws.specs.Below.{sumBelow}
+use Rattle.laws.specs.Inner.{allBelow, anyBelow, bestBelow, firstBelow}
 use Rattle.laws.specs.ByIndex.{byIndex}
-use Rattle.cutting.specs.Change.{added, corrected}
-use Rattle.points.specs.Marks.{marksOf, isPoint, reaches, reachesUpTo, someMakes, makes}
-use Rattle.points.specs.Rows.{rowsOf}
-use Rattle.fill.specs.Worth.{worthOf, fittingValue, lineValue, lineAt}
-use Rattle.fill.specs.Filled.{final, finalWithin, filled}
-use Rattle.cells.specs.Box.{countInBox, countInRow, isEmpty, anyInBox, anyInRow, exceeds, tooMuch}
-use Rattle.cells.specs.Cells.{empty, cellOf, place, redrawn}
+use Rattle.cutting.specs.Change.{added, corrected, removed}
+use Rattle.points.specs.Inner.{marksOf, isPoint, reaches, reachesUpTo, someMakes, makes, rowsOf}
+use Rattle.fill.specs.Inner.{worthOf, fittingValue, lineValue, lineAt, final, finalWithin, filled}
+use Rattle.cells.specs.Box.{countInBox, countInRow, isEmpty}
+use Rattle.cells.specs.Inner.{anyInBox, anyInRow, exceeds, tooMuch, redrawn, fits, emptied, emptiedWhere}
+use Rattle.cells.specs.Cells.{empty, cellOf, place}
 use Rattle.job.specs.declared.Piece.{Piece as Record}
 use Rattle.job.specs.declared.Job.{Job}
-use Rattle.job.specs.Job.{jobOf, zeroJob, piecesOf}
-use Rattle.job.specs.Range.{jobInRange, piecesInRange, pieceInRange}
-use Rattle.job.specs.Row.{rowOf}
+use Rattle.job.specs.Job.{recordOf, jobOf, zeroJob, piecesOf}
+use Rattle.job.specs.Inner.{jobInRange, piecesInRange, pieceInRange, rowOf, blockShape, fromBlock}
 use Rattle.job.specs.Change.{withAdded, withCorrected, withRemoved}
-use Rattle.cells.specs.Emptied.{fits, emptied, emptiedWhere}
 use Rattle.desk.specs.declared.Changed.{Changed}
-use Rattle.desk.specs.declared.Asked.{Asked}
-use Rattle.desk.specs.Changing.{recordOfPiece, opened, openedCells, emptiedSize, addedJob, addedCells, correctedJob, correctedCells, removedJob, removedCells}
-use Rattle.desk.specs.Promise.{OpenPromise}
+use Rattle.desk.specs.Changing.{recordOfPiece}
+use Rattle.desk.specs.Inner.{opened, openedCells, emptiedSize, addedJob, addedCells, correctedJob, correctedCells, removedJob, removedCells, OpenPromise, orElse, accepted, jobRefused, askRefused, openRefused, addRefused, removeRefused, correctRefused, asked, askedCells, filledFor, jobRows, rowsOfPieces}
 use Rattle.desk.proofs.Answers.{given}
 use Rattle.desk.proofs.Granted.{open-granted}
-use Rattle.desk.specs.Refusals.{orElse, accepted, jobRefused, askRefused, openRefused, addRefused, removeRefused, correctRefused}
-use Rattle.desk.specs.Asking.{numbersOf, asked, askedCells, filledFor, jobRows, rowsOfPieces}
 use Rattle.demands.proofs.Agree.{Agree, agree-refused, agree-empties, change-agree, ask-agree, planSays, plan-agree}
 use Rattle.laws.specs.Put.{put}
 use Rattle.laws.proofs.Put.{put-front}
-use Rattle.laws.specs.First.{firstBelow}
 use Rattle.fields.specs.Number.{bytes2, bytes4, number2Of, number4Of}
 use Rattle.fields.specs.Sum.{runningSum}
-use Rattle.job.specs.Block.{block, bytesOfHead, bytesOfPieces, bytesOfPiece, pieceFrom, jobIn, blockShape, fromBlock}
-use Rattle.cutting.specs.Piece.{pieceAt}
+use Rattle.job.specs.Block.{block, bytesOfHead, bytesOfPieces, bytesOfPiece, pieceFrom, jobIn}
+use Rattle.cutting.specs.Piece.{pieceAt, Lays}
 use Rattle.cutting.specs.Tree.{earning}
 use Rattle.nodes.specs.Encoding.{encode, node}
-use Rattle.nodes.specs.Reader.{scrapNode, isPiece, pieceNode, isInside, verticalNode, horizontalNode, letterNode, nodeAt, joined, after, partBy, partWithin, partAt}
-use Rattle.tracer.specs.Choice.{sideOf, near, far, suits, firstPiece, addsTo, leastLine, chooseFor, choose}
-use Rattle.tracer.specs.Traced.{lineOf, trimTo, trimmed, treeBy, tracedWithin, traced, tracesBy, tracesWithin, traces}
+use Rattle.nodes.specs.Inner.{scrapNode, isPiece, pieceNode, isInside, verticalNode, horizontalNode, letterNode, nodeAt, joined, after, partBy, partWithin, partAt}
+use Rattle.tracer.specs.Inner.{sideOf, near, far, suits, firstPiece, addsTo, leastLine, chooseFor, choose, lineOf, trimTo, trimmed, treeBy, tracedWithin, traced, tracesBy, tracesWithin, traces}
 use Rattle.checker.specs.PlanFile.{planBytes, summed, body, pointers}
 use Rattle.checker.specs.Fields.{blockDistance, nodesDistance, statedValue, statedSum, summedBytes, blockBytes}
-use Rattle.checker.specs.Checked.{answer, checked, framed, sumAgrees, agreed, nodesRead, judged, judgedJob}
+use Rattle.checker.specs.Checked.{answer}
+use Rattle.checker.specs.Inner.{checked, framed, sumAgrees, agreed, nodesRead, judged, judgedJob}
 use Rattle.plan.specs.declared.Planned.{Planned}
-use Rattle.plan.specs.File.{planFile}
-use Rattle.plan.specs.Refusals.{planRefused, boxRefused, fileRefused}
-use Rattle.plan.specs.Planning.{answerWith as plansAnswer, planned, plannedBytes}
-use Rattle.plan.specs.Promise.{PlanPromise}
-use Rattle.demands.specs.Script.{Step, Said, said, emptyCells, saidOfChange, saidOfAnswer, saidOfPlan, saidOfCheck, Runs, Sheet, sheets}
+use Rattle.plan.specs.Inner.{planFile, planRefused, boxRefused, fileRefused, answerWith as plansAnswer, planned, plannedBytes, PlanPromise}
+use Rattle.khonvertseg.specs.declared.KhonChanged.{KhonChanged}
+use Rattle.khonvertseg.specs.Flat.{flatChanged, flatAsked, flatPlanned, flatChecked}
+use Rattle.khonvertseg.specs.Calls.{KhonOpens}
+use Rattle.desk.proofs.Words.{open-exactly, add-exactly, correct-exactly, remove-exactly, ask-exactly}
+use Rattle.plan.proofs.Plans.{plan-exactly}
+use Rattle.checker.proofs.Given.{only}
+use Rattle.job.proofs.Blocks.{own-block}
+use Rattle.cutting.specs.Dissection.{Best}
+use Rattle.cutting.specs.Inner.{exactly, exactValue, bestWithin, bestValue}
+use Rattle.cutting.proofs.BestValue.{bestValue-best}
+use Rattle.demands.specs.Script.{piecesAfter, Holds, Each, Step, Said, said, emptyCells, saidOfChange, saidOfAnswer, saidOfPlan, saidOfCheck, Runs, Sheet, K1, K2, K3, K4K9K10, K5, K6, K7, K8, sheets}
+use Rattle.demands.proofs.Outcome.{Own, own-after}
+use Rattle.demands.proofs.Changes.{add-outcome, correct-outcome, remove-outcome, open-outcome}
+use Rattle.demands.proofs.Questions.{with-own}
 
 -- Each change of both tables.
 add-agree : (job : Job) (t s : List ℕ) (piece : Record) → Agree (job .width) (job .height) t s → (addedJob job t piece ≡ addedJob job s piece) × Agree (addedJob job s piece .job .width) (addedJob job s piece .job .height) (addedCells job t piece) (addedCells job s piece)
@@ -78,17 +82,26 @@ correct-agree job t s k piece g =
 -- What the promises come to, computed.
 run : Job → List ℕ → List Step → List Said
 run job t [] = []
-run job t (Step.add piece ∷ steps) = saidOfChange (addedJob job t piece) (addedCells job t piece) ∷ run (addedJob job t piece .job) (addedCells job t piece) steps
-run job t (Step.correct k piece ∷ steps) = saidOfChange (correctedJob job t k piece) (correctedCells job t k piece) ∷ run (correctedJob job t k piece .job) (correctedCells job t k piece) steps
-run job t (Step.remove k ∷ steps) = saidOfChange (removedJob job t k) (removedCells job t k) ∷ run (removedJob job t k .job) (removedCells job t k) steps
-run job t (Step.ask x y ∷ steps) = saidOfAnswer job (asked job t x y) (askedCells job t x y) ∷ run job (askedCells job t x y) steps
+run job t (Step.add piece ∷ steps) =
+    let c = addedJob job t (recordOf piece) in
+    let l = addedCells job t (recordOf piece) in
+    saidOfChange (flatChanged c) l ∷ run (c .job) l steps
+run job t (Step.correct k piece ∷ steps) =
+    let c = correctedJob job t k (recordOf piece) in
+    let l = correctedCells job t k (recordOf piece) in
+    saidOfChange (flatChanged c) l ∷ run (c .job) l steps
+run job t (Step.remove k ∷ steps) = saidOfChange (flatChanged (removedJob job t k)) (removedCells job t k) ∷ run (removedJob job t k .job) (removedCells job t k) steps
+run job t (Step.ask x y ∷ steps) = saidOfAnswer job (flatAsked (asked job t x y)) (askedCells job t x y) ∷ run job (askedCells job t x y) steps
 run job t (Step.plan x y room ∷ steps) = planSays job x y t (planRefused job t x y room) ∷ run job t steps
-run job t (Step.check file ∷ steps) = saidOfCheck job t (checked file) ∷ run job t steps
+run job t (Step.check file ∷ steps) = saidOfCheck job t (flatChecked (checked file)) ∷ run job t steps
 
 -- What a plan that keeps its promise says.
-plan-said : (job : Job) (t : List ℕ) (x y room : ℕ) (o : List ℕ) {r : Planned} {o' : List ℕ} → length o ≡ room → PlanPromise job t x y o r o' → saidOfPlan job t r o' ≡ planSays job x y t (planRefused job t x y room)
+plan-said : (job : Job) (t : List ℕ) (x y room : ℕ) (o : List ℕ) {r : Planned} {o' : List ℕ} → length o ≡ room → PlanPromise job t x y o r o' → saidOfPlan job t (flatPlanned r) o' ≡ planSays job x y t (planRefused job t x y room)
 unfolding planned plannedBytes accepted
-plan-said job t x y room o {r} {o'} e p = ap₂ (saidOfPlan job t) (p .0) (p .1) ∙ by (planRefused job t x y (length o)) ∙ ap (λ (n : ℕ). planSays job x y t (planRefused job t x y n)) e
+plan-said job t x y room o {r} {o'} e p =
+    ap₂ (λ (c : Planned) (l : List ℕ). saidOfPlan job t (flatPlanned c) l) (p .0) (p .1)
+    ∙ by (planRefused job t x y (length o))
+    ∙ ap (λ (n : ℕ). planSays job x y t (planRefused job t x y n)) e
   where
     file : List ℕ
     file = planFile job t x y
@@ -96,44 +109,56 @@ plan-said job t x y room o {r} {o'} e p = ap₂ (saidOfPlan job t) (p .0) (p .1)
     whole : (n : ℕ) → take n (put o 0 file) ≡ take (0 + n) (put o 0 file)
     whole n = ap (λ (m : ℕ). take m (put o 0 file)) (sym (zero-add n))
 
-    by : (k : ℕ) → saidOfPlan job t (plansAnswer k (length file) (cellOf (job .width) t x y)) (accepted k (put o 0 file) o) ≡ planSays job x y t k
+    by : (k : ℕ) → saidOfPlan job t (flatPlanned (plansAnswer k (length file) (cellOf (job .width) t x y))) (accepted k (put o 0 file) o) ≡ planSays job x y t k
     by zero = ap (λ (l : List ℕ). record { refusal = 0; value = cellOf (job .width) t x y; worked = 0; empties = emptyCells job t; file = l }) (whole (length file) ∙ put-front o 0 file (omega arith))
     by (suc k) = refl
 
 -- A change, and what follows it.
-follow : {r c : Changed} {t' l : List ℕ} {sayings : List Said} (steps : List Step) → r ≡ c → t' ≡ l → sayings ≡ run (r .job) t' steps → saidOfChange r t' ∷ sayings ≡ saidOfChange c l ∷ run (c .job) l steps
+follow : {r : KhonChanged} {c : Changed} {t' l : List ℕ} {sayings : List Said} (steps : List Step) → r ≡ flatChanged c → t' ≡ l → sayings ≡ run (r .job) t' steps → saidOfChange r t' ∷ sayings ≡ saidOfChange (flatChanged c) l ∷ run (c .job) l steps
 follow {r} {c} {t'} {l} steps e f h = ap (λ (m : List Said). saidOfChange r t' ∷ m) h ∙ (λ i. saidOfChange (e i) (f i) ∷ run (e i .job) (f i) steps)
 
-runs-run : {job : Job} {t : List ℕ} {steps : List Step} {sayings : List Said} → Runs job t steps sayings → sayings ≡ run job t steps
+-- Whoever keeps the promises says that, call by call; the job stays that of its own block.
+runs-run : {job : Job} {t : List ℕ} {steps : List Step} {sayings : List Said} → Own job → Runs job t steps sayings → sayings ≡ run job t steps
 unfolding run
-runs-run Runs.done = refl
-runs-run (Runs.add {steps = steps} piece p rest) = follow steps (p .0) (p .1) (runs-run rest)
-runs-run (Runs.correct {steps = steps} k piece p rest) = follow steps (p .0) (p .1) (runs-run rest)
-runs-run (Runs.remove {steps = steps} k p rest) = follow steps (p .0) (p .1) (runs-run rest)
-runs-run (Runs.ask {job = job} {t' = t'} {r = r} {steps = steps} x y p rest) =
-    ap (λ (m : List Said). saidOfAnswer job r t' ∷ m) (runs-run rest) ∙ (λ i. saidOfAnswer job (p .0 i) (p .1 i) ∷ run job (p .1 i) steps)
-runs-run (Runs.plan {job = job} {t = t} x y room o e p rest) = ap₂ _∷_ (plan-said job t x y room o e p) (runs-run rest)
-runs-run (Runs.check {job = job} {t = t} file p rest) = ap₂ _∷_ (ap (saidOfCheck job t) p) (runs-run rest)
+runs-run own Runs.done = refl
+runs-run {job} {t} own (Runs.add {steps = steps} piece p rest) =
+    let e = add-exactly job t (recordOf piece) .1 (p .keeps) in
+    follow steps (p .laid ∙ ap flatChanged (e .0)) (e .1) (runs-run (own-after own (add-outcome job t (recordOf piece) p)) rest)
+runs-run {job} {t} own (Runs.correct {steps = steps} k piece p rest) =
+    let e = correct-exactly job t k (recordOf piece) .1 (p .keeps) in
+    follow steps (p .laid ∙ ap flatChanged (e .0)) (e .1) (runs-run (own-after own (correct-outcome job t k (recordOf piece) p)) rest)
+runs-run {job} {t} own (Runs.remove {steps = steps} k p rest) =
+    let e = remove-exactly job t k .1 (p .keeps) in
+    follow steps (p .laid ∙ ap flatChanged (e .0)) (e .1) (runs-run (own-after own (remove-outcome job t k p)) rest)
+runs-run {job} {t} own (Runs.ask {t' = t'} {r = r} {steps = steps} x y p rest) =
+    let e = ask-exactly job t x y .1 (with-own own (p .keeps)) in
+    ap (λ (m : List Said). saidOfAnswer job r t' ∷ m) (runs-run own rest)
+    ∙ (λ i. saidOfAnswer job ((p .laid ∙ ap flatAsked (e .0)) i) (e .1 i) ∷ run job (e .1 i) steps)
+runs-run {job} {t} own (Runs.plan {o' = o'} x y room o e p rest) =
+    ap₂ _∷_ (ap (λ r. saidOfPlan job t r o') (p .laid) ∙ plan-said job t x y room o e (plan-exactly job t x y o .1 (with-own own (p .keeps)))) (runs-run own rest)
+runs-run {job} {t} own (Runs.check file bytes p rest) = ap₂ _∷_ (ap (saidOfCheck job t) (p .laid ∙ ap flatChecked (only file bytes (p .keeps)))) (runs-run own rest)
 
 -- Tables that agree on the sheet hear the same.
-after-change : (c d : Changed) (t s : List ℕ) (steps : List Step) → c ≡ d → Agree (d .job .width) (d .job .height) t s → run (d .job) t steps ≡ run (d .job) s steps → saidOfChange c t ∷ run (c .job) t steps ≡ saidOfChange d s ∷ run (d .job) s steps
+after-change : (c d : Changed) (t s : List ℕ) (steps : List Step) → c ≡ d → Agree (d .job .width) (d .job .height) t s → run (d .job) t steps ≡ run (d .job) s steps → saidOfChange (flatChanged c) t ∷ run (c .job) t steps ≡ saidOfChange (flatChanged d) s ∷ run (d .job) s steps
 after-change c d t s steps e g h =
-    (λ i. saidOfChange (e i) t ∷ run (e i .job) t steps)
+    (λ i. saidOfChange (flatChanged (e i)) t ∷ run (e i .job) t steps)
     ∙ ap₂ (λ (n : ℕ) (l : List Said). said (d .refusal) 0 0 n ∷ l) (agree-empties (d .job .width) (d .job .height) (d .job .width) (d .job .height) t s (omega arith) (omega arith) g) h
 
 run-agree : (steps : List Step) (job : Job) (t s : List ℕ) → Agree (job .width) (job .height) t s → run job t steps ≡ run job s steps
 unfolding run
 run-agree [] job t s g = refl
-run-agree (Step.add piece ∷ steps) job t s g = let a = add-agree job t s piece g in after-change _ _ _ _ steps (a .0) (a .1) (run-agree steps _ _ _ (a .1))
-run-agree (Step.correct k piece ∷ steps) job t s g = let a = correct-agree job t s k piece g in after-change _ _ _ _ steps (a .0) (a .1) (run-agree steps _ _ _ (a .1))
+run-agree (Step.add piece ∷ steps) job t s g = let a = add-agree job t s (recordOf piece) g in after-change _ _ _ _ steps (a .0) (a .1) (run-agree steps _ _ _ (a .1))
+run-agree (Step.correct k piece ∷ steps) job t s g = let a = correct-agree job t s k (recordOf piece) g in after-change _ _ _ _ steps (a .0) (a .1) (run-agree steps _ _ _ (a .1))
 run-agree (Step.remove k ∷ steps) job t s g = let a = remove-agree job t s k g in after-change _ _ _ _ steps (a .0) (a .1) (run-agree steps _ _ _ (a .1))
 run-agree (Step.ask x y ∷ steps) job t s g =
     let a = ask-agree job t s x y g in
-    (λ i. saidOfAnswer job (a .0 i) (askedCells job t x y) ∷ run job (askedCells job t x y) steps)
-    ∙ ap₂ (λ (n : ℕ) (l : List Said). said (numbersOf (asked job s x y) .refusal) (numbersOf (asked job s x y) .value) (numbersOf (asked job s x y) .worked) n ∷ l) (agree-empties (job .width) (job .height) (job .width) (job .height) _ _ (omega arith) (omega arith) (a .1)) (run-agree steps job _ _ (a .1))
+    let r = flatAsked (asked job s x y) in
+    (λ i. saidOfAnswer job (flatAsked (a .0 i)) (askedCells job t x y) ∷ run job (askedCells job t x y) steps)
+    ∙ ap₂ (λ (n : ℕ) (l : List Said). said (r .refusal) (r .value) (r .worked) n ∷ l) (agree-empties (job .width) (job .height) (job .width) (job .height) _ _ (omega arith) (omega arith) (a .1)) (run-agree steps job _ _ (a .1))
 run-agree (Step.plan x y room ∷ steps) job t s g = ap₂ _∷_ (plan-agree job t s x y room g) (run-agree steps job t s g)
 run-agree (Step.check file ∷ steps) job t s g =
-    ap₂ (λ (n : ℕ) (l : List Said). said (answer (checked file) .number) (answer (checked file) .value) 0 n ∷ l) (agree-empties (job .width) (job .height) (job .width) (job .height) t s (omega arith) (omega arith) g) (run-agree steps job t s g)
+    let r = flatChecked (checked file) in
+    ap₂ (λ (n : ℕ) (l : List Said). said (r .refusal) (r .value) 0 n ∷ l) (agree-empties (job .width) (job .height) (job .width) (job .height) t s (omega arith) (omega arith) g) (run-agree steps job t s g)
 
 -- A fresh sheet of empty cells.
 abbrev blank : ℕ → ℕ → List ℕ
@@ -153,47 +178,51 @@ opened-agree a b t h =
     all-empty (suc n) zero = refl
     all-empty (suc n) (suc k) = all-empty n k
 
--- Any library that keeps the promises says of the sheet what is stated, whatever the table held before.
-abbrev pub Kept : Sheet → Type 0
-Kept s = (t t' : List ℕ) (r : Changed) (sayings : List Said) → OpenPromise (s .width) (s .height) t r t' → r .refusal ≡ 0 → Runs (r .job) t' (s .steps) sayings → sayings ≡ s .sayings
+-- What the promises come to on a fresh sheet, and the best value by trying every line, by computation.
+record Computes (s : Sheet) : Type 0 where
+  pub said : run (jobOf (s .width) (s .height) []) (blank (s .width) (s .height)) (s .steps) ≡ s .sayings
+  pub best : (bestValue (piecesAfter [] (s .steps)) (s .x) (s .y) ≡ s .best) × (1 ≤ s .x) × (1 ≤ s .y)
 
 opened-sheet : (s : Sheet) (t : List ℕ) → openRefused (s .width) (s .height) t ≡ 0 → Agree (jobOf (s .width) (s .height) [] .width) (jobOf (s .width) (s .height) [] .height) (emptied (s .width) (s .height) 1 1 t) (blank (s .width) (s .height))
 unfolding jobOf
 opened-sheet s t z = opened-agree (s .width) (s .height) t (open-granted (s .width) (s .height) t refl z .room)
 
-computed : (s : Sheet) → run (jobOf (s .width) (s .height) []) (blank (s .width) (s .height)) (s .steps) ≡ s .sayings → Kept s
+computed : (s : Sheet) → Computes s → Holds s
 unfolding opened openedCells
-computed s c t t' r sayings p e runs =
-    runs-run runs
-    ∙ ((λ i. run (same i) (cells i) (s .steps))
-    ∙ (run-agree (s .steps) (jobOf (s .width) (s .height) []) _ _ (opened-sheet s t z) ∙ c))
+computed s c = record { said = kept; best = subst (Best (Lays (piecesAfter [] (s .steps))) (s .x) (s .y)) (c .best .0) (bestValue-best (piecesAfter [] (s .steps)) (s .x) (s .y) (c .best .1) (c .best .2)) }
   where
-    z : openRefused (s .width) (s .height) t ≡ 0
-    z = sym (ap (λ (k : Changed). k .refusal) (p .0)) ∙ e
+    kept : (t t' : List ℕ) (r : KhonChanged) (sayings : List Said) → KhonOpens (s .width) (s .height) t r t' → r .refusal ≡ 0 → Runs (r .job) t' (s .steps) sayings → sayings ≡ s .sayings
+    kept t t' r sayings p e runs =
+        let o = open-outcome (s .width) (s .height) t p e in
+        runs-run (own-block (r .job) (o .usable .range) (o .tidy)) runs
+        ∙ ((λ i. run (same i) (cells i) (s .steps))
+        ∙ (run-agree (s .steps) (jobOf (s .width) (s .height) []) _ _ (opened-sheet s t z) ∙ c .said))
+      where
+        f : OpenPromise (s .width) (s .height) t (p .answer) t'
+        f = open-exactly (s .width) (s .height) t .1 (p .keeps)
 
-    same : r .job ≡ jobOf (s .width) (s .height) []
-    same = ap (λ (k : Changed). k .job) (p .0) ∙ sym (given (jobOf (s .width) (s .height) []) zeroJob refl z)
+        number : r ≡ flatChanged (opened (s .width) (s .height) t)
+        number = p .laid ∙ ap flatChanged (f .0)
 
-    cells : t' ≡ emptied (s .width) (s .height) 1 1 t
-    cells = p .1 ∙ sym (given (emptied (s .width) (s .height) 1 1 t) t refl z)
+        z : openRefused (s .width) (s .height) t ≡ 0
+        z = sym (ap (λ (k : KhonChanged). k .refusal) number) ∙ e
 
--- Each sheet of a list.
-abbrev pub Each : (Sheet → Type 0) → List Sheet → Type 0
-Each P [] = Unit {0}
-Each P (s ∷ rest) = P s × Each P rest
+        same : r .job ≡ jobOf (s .width) (s .height) []
+        same = ap (λ (k : KhonChanged). k .job) number ∙ sym (given (jobOf (s .width) (s .height) []) zeroJob refl z)
 
--- What the promises come to on a fresh sheet, by computation.
-abbrev Computes : Sheet → Type 0
-Computes s = run (jobOf (s .width) (s .height) []) (blank (s .width) (s .height)) (s .steps) ≡ s .sayings
+        cells : t' ≡ emptied (s .width) (s .height) 1 1 t
+        cells = f .1 ∙ sym (given (emptied (s .width) (s .height) 1 1 t) t refl z)
 
 computes : Each Computes sheets
-unfolding run addedJob addedCells correctedJob correctedCells askedCells asked addRefused correctRefused removeRefused askRefused jobRefused orElse accepted jobInRange piecesInRange pieceInRange allBelow withAdded withCorrected jobOf zeroJob piecesOf added corrected byIndex emptiedSize emptied emptiedWhere redrawn fits cellOf place recordOfPiece filledFor filled final finalWithin worthOf fittingValue lineValue lineAt jobRows rowsOfPieces rowsOf rowOf marksOf isPoint reaches reachesUpTo someMakes makes anyBelow bestBelow sumBelow countInBox countInRow isEmpty anyInBox anyInRow exceeds tooMuch planRefused boxRefused fileRefused planBytes summed body pointers block bytesOfHead bytesOfPieces bytesOfPiece bytes2 bytes4 encode node runningSum earning pieceAt firstBelow sideOf near far suits firstPiece addsTo leastLine Rattle.tracer.specs.Choice.orElse chooseFor choose lineOf trimTo trimmed treeBy tracedWithin traced tracesBy tracesWithin traces checked framed sumAgrees agreed nodesRead judged judgedJob blockDistance nodesDistance statedValue statedSum summedBytes blockBytes number2Of number4Of pieceFrom jobIn blockShape fromBlock scrapNode isPiece pieceNode isInside verticalNode horizontalNode letterNode nodeAt joined after partBy partWithin partAt
-computes = (refl, (refl, (refl, (refl, (refl, (refl, (refl, tt)))))))
+unfolding run addedJob addedCells correctedJob correctedCells askedCells asked addRefused correctRefused removeRefused askRefused jobRefused orElse accepted jobInRange piecesInRange pieceInRange allBelow withAdded withCorrected jobOf zeroJob piecesOf added corrected byIndex emptiedSize emptied emptiedWhere redrawn fits cellOf place recordOfPiece filledFor filled final finalWithin worthOf fittingValue lineValue lineAt jobRows rowsOfPieces rowsOf rowOf marksOf isPoint reaches reachesUpTo someMakes makes anyBelow bestBelow sumBelow countInBox countInRow isEmpty anyInBox anyInRow exceeds tooMuch planRefused boxRefused fileRefused planBytes summed body pointers block bytesOfHead bytesOfPieces bytesOfPiece bytes2 bytes4 encode node runningSum earning pieceAt firstBelow sideOf near far suits firstPiece addsTo leastLine Rattle.tracer.specs.Inner.orElse chooseFor choose lineOf trimTo trimmed treeBy tracedWithin traced tracesBy tracesWithin traces checked framed sumAgrees agreed nodesRead judged judgedJob blockDistance nodesDistance statedValue statedSum summedBytes blockBytes number2Of number4Of pieceFrom jobIn blockShape fromBlock scrapNode isPiece pieceNode isInside verticalNode horizontalNode letterNode nodeAt joined after partBy partWithin partAt bestValue bestWithin exactValue exactly piecesAfter removed
+computes =
+    let each : (s : Sheet) → run (jobOf (s .width) (s .height) []) (blank (s .width) (s .height)) (s .steps) ≡ s .sayings → bestValue (piecesAfter [] (s .steps)) (s .x) (s .y) ≡ s .best → 1 ≤ s .x → 1 ≤ s .y → Computes s = λ s e f g h. record { said = e; best = (f, g, h) } in
+    (each K1 refl refl (omega arith) (omega arith), (each K2 refl refl (omega arith) (omega arith), (each K3 refl refl (omega arith) (omega arith), (each K4K9K10 refl refl (omega arith) (omega arith), (each K5 refl refl (omega arith) (omega arith), (each K6 refl refl (omega arith) (omega arith), (each K7 refl refl (omega arith) (omega arith), (each K8 refl refl (omega arith) (omega arith), tt))))))))
 
-each-kept : (l : List Sheet) → Each Computes l → Each Kept l
-each-kept [] e = tt
-each-kept (s ∷ l) e = (computed s (e .0), each-kept l (e .1))
+each-holds : (l : List Sheet) → Each Computes l → Each Holds l
+each-holds [] e = tt
+each-holds (s ∷ l) e = (computed s (e .0), each-holds l (e .1))
 
--- K1 to K8, over the promises of the calls and whatever the table held before.
-pub sheets-kept : Each Kept sheets
-sheets-kept = each-kept sheets computes
+-- K1 to K10, over the promises of the calls and whatever the table held before.
+pub sheets-kept : Each Holds sheets
+sheets-kept = each-holds sheets computes

@@ -1,41 +1,22 @@
--- "Open, then add, correct, remove and ask in any order, refused calls among them", each call given the job last returned.
--- An answer in a history is any answer that keeps the call's promise, whoever's library gave it.
-use Prim.Native.Nat.{ℕ}
+-- "Open, then add, correct, remove and ask in any order, refused calls among them": the calls under the header's names, each given
+-- the job last returned, or its block. An answer in a history is any answer that keeps the call's promise, whoever's library gave it.
+use Prim.Native.Nat.{ℕ, _≤_}
 use mathlib.Core.List.{List}
 use mathlib.Core.Logic.{_⊎_}
 use mathlib.Core.Path.{_≡_}
+use lib.ListN.{length}
 use Rattle.cutting.specs.Piece.{Fits, Inside, Lays}
 use Rattle.cutting.specs.Dissection.{Best}
 use Rattle.cells.specs.Cells.{empty, cellOf}
 use Rattle.job.specs.declared.Piece.{Piece as Record}
 use Rattle.job.specs.declared.Job.{Job}
 use Rattle.job.specs.Job.{piecesOf}
-use Rattle.desk.specs.declared.Changed.{Changed}
-use Rattle.desk.specs.declared.Asked.{Asked}
-use Rattle.desk.specs.Changing.{recordOfPiece}
-use Rattle.desk.specs.Asking.{numbersOf}
-use Rattle.desk.specs.Promise.{OpenPromise, AddPromise, CorrectPromise, RemovePromise, AskPromise}
-
--- A history that ends with this job and this table.
-pub data History : Job → List ℕ → Type 0 where
-  opening : (a b : ℕ) (t : List ℕ) {t' : List ℕ} {r : Changed} → OpenPromise a b t r t' → r .refusal ≡ 0 → History (r .job) t'
-  adding : {job : Job} {t t' : List ℕ} {r : Changed} → History job t → (piece : Record) → AddPromise job t piece r t' → History (r .job) t'
-  correcting : {job : Job} {t t' : List ℕ} {r : Changed} → History job t → (k : ℕ) (piece : Record) → CorrectPromise job t k piece r t' → History (r .job) t'
-  removing : {job : Job} {t t' : List ℕ} {r : Changed} → History job t → (k : ℕ) → RemovePromise job t k r t' → History (r .job) t'
-  asking : {job : Job} {t t' : List ℕ} {r : Asked} → History job t → (x y : ℕ) → AskPromise job t x y r t' → History job t'
-
--- A record's size fits in u by w.
-abbrev pub SizeFits : Record → ℕ → ℕ → Type 0
-SizeFits size u w = Fits (size .width) (size .height) u w
-
--- "an answered question has covered [the cell] since the opening and since the last accepted change whose old or new size fits in it"
-unfoldable pub Covered : {job : Job} {t : List ℕ} → History job t → ℕ → ℕ → Type 0
-Covered (opening a b t p e) u w = ⊥
-Covered (adding {r = r} h piece p) u w = Covered h u w × (r .refusal ≡ 0 → SizeFits piece u w → ⊥)
-Covered (correcting {job = job} {r = r} h k piece p) u w =
-    Covered h u w × (r .refusal ≡ 0 → SizeFits (recordOfPiece job k) u w ⊎ SizeFits piece u w → ⊥)
-Covered (removing {job = job} {r = r} h k p) u w = Covered h u w × (r .refusal ≡ 0 → SizeFits (recordOfPiece job k) u w → ⊥)
-Covered (asking {r = r} h x y p) u w = Covered h u w ⊎ ((numbersOf r .refusal ≡ 0) × Fits u w x y)
+use Rattle.job.specs.Block.{blockOf}
+use Rattle.desk.specs.Refusals.{area}
+use Rattle.desk.specs.Changing.{recordOfPiece, SizeFits}
+use Rattle.khonvertseg.specs.declared.KhonChanged.{KhonChanged}
+use Rattle.khonvertseg.specs.declared.KhonAsked.{KhonAsked}
+use Rattle.khonvertseg.specs.Calls.{KhonOpens, KhonAdds, KhonCorrects, KhonRemoves, KhonAsks}
 
 -- The number in cell (u, w) of the job's sheet.
 abbrev pub cell : Job → List ℕ → ℕ → ℕ → ℕ
@@ -53,10 +34,37 @@ OnSheet job u w = Inside u w (job .width) (job .height)
 abbrev pub BestFor : Job → ℕ → ℕ → ℕ → Type 0
 BestFor job u w v = Best (Lays (piecesOf job)) u w v
 
+-- "Entries beyond a·b are no cells of the sheet .. and demand 3 doesn't speak of them": the caller may keep his own data there. The row
+-- t' has the cells of t, and whatever else.
+pub record SameSheet (job : Job) (t t' : List ℕ) : Type 0 where
+  pub room : area job ≤ length t'
+  pub cells : (u w : ℕ) → OnSheet job u w → cell job t' u w ≡ cell job t u w
+
+-- A history that ends with this job and this table.
+pub data History : Job → List ℕ → Type 0 where
+  opening : (a b : ℕ) (t : List ℕ) {t' : List ℕ} {r : KhonChanged} → KhonOpens a b t r t' → r .refusal ≡ 0 → History (r .job) t'
+  adding : {job : Job} {t t' : List ℕ} {r : KhonChanged} → History job t → (piece : Record) → KhonAdds job t piece r t' → History (r .job) t'
+  correcting : {job : Job} {t t' : List ℕ} {r : KhonChanged} → History job t → (k : ℕ) (piece : Record) → KhonCorrects job t k piece r t' → History (r .job) t'
+  removing : {job : Job} {t t' : List ℕ} {r : KhonChanged} → History job t → (k : ℕ) → KhonRemoves job t k r t' → History (r .job) t'
+  asking : {job : Job} {t t' : List ℕ} {r : KhonAsked} → History job t → (x y : ℕ) → KhonAsks (blockOf job) t x y r t' → History job t'
+  -- between two calls, the caller's own data beyond the sheet
+  elsewhere : {job : Job} {t t' : List ℕ} → History job t → SameSheet job t t' → History job t'
+
+-- "an answered question has covered [the cell] since the opening and since the last accepted change whose old or new size fits in it"
+unfoldable pub Covered : {job : Job} {t : List ℕ} → History job t → ℕ → ℕ → Type 0
+Covered (opening a b t p e) u w = ⊥
+Covered (adding {r = r} h piece p) u w = Covered h u w × (r .refusal ≡ 0 → SizeFits piece u w → ⊥)
+Covered (correcting {job = job} {r = r} h k piece p) u w =
+    Covered h u w × (r .refusal ≡ 0 → SizeFits (recordOfPiece job k) u w ⊎ SizeFits piece u w → ⊥)
+Covered (removing {job = job} {r = r} h k p) u w = Covered h u w × (r .refusal ≡ 0 → SizeFits (recordOfPiece job k) u w → ⊥)
+Covered (asking {r = r} h x y p) u w = Covered h u w ⊎ ((r .refusal ≡ 0) × Fits u w x y)
+Covered (elsewhere h s) u w = Covered h u w
+
 -- "Once asked, with no accepted change since": an answered question covered x by y, and no change was accepted after it.
 unfoldable pub AskedSince : {job : Job} {t : List ℕ} → History job t → ℕ → ℕ → Type 0
 AskedSince (opening a b t p e) x y = ⊥
 AskedSince (adding {r = r} h piece p) x y = AskedSince h x y × (r .refusal ≡ 0 → ⊥)
 AskedSince (correcting {r = r} h k piece p) x y = AskedSince h x y × (r .refusal ≡ 0 → ⊥)
 AskedSince (removing {r = r} h k p) x y = AskedSince h x y × (r .refusal ≡ 0 → ⊥)
-AskedSince (asking {r = r} h u w p) x y = AskedSince h x y ⊎ ((numbersOf r .refusal ≡ 0) × Fits x y u w)
+AskedSince (asking {r = r} h u w p) x y = AskedSince h x y ⊎ ((r .refusal ≡ 0) × Fits x y u w)
+AskedSince (elsewhere h s) x y = AskedSince h x y

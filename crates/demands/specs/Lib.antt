@@ -1,3 +1,4 @@
--- What the customer demands, over histories of calls on one table.
+-- What the customer demands, over the calls under the header's names.
+pub mod Refuses
 pub mod History
 pub mod Script

@@ -1,29 +1,27 @@
--- "Sheets to try", as scripts of calls on an opened sheet, with what each call is to say.
+-- "Sheets to try", as scripts of calls on an opened sheet, with what each call is to say, and the best value as the definition has it.
 use Prim.Native.Nat.{ℕ}
-use mathlib.Core.List.{List, [], _∷_}
+use mathlib.Core.List.{List, [], _∷_, _++_}
 use mathlib.Core.Path.{_≡_}
-use lib.ListN.{length, take}
-use Rattle.cutting.specs.Piece.{Piece, sized}
+use lib.ListN.{length, take, set}
+use Rattle.cutting.specs.Piece.{Piece, sized, Lays}
+use Rattle.cutting.specs.Dissection.{Best}
+use Rattle.cutting.specs.Change.{added, corrected, removed}
 use Rattle.cutting.specs.Tree.{Tree}
+use Rattle.fields.specs.Number.{Bytes}
 use Rattle.cells.specs.Box.{isEmpty, countInBox}
-use Rattle.job.specs.declared.Piece.{Piece as Record}
 use Rattle.job.specs.declared.Job.{Job}
-use Rattle.job.specs.Job.{jobOf}
-use Rattle.checker.specs.declared.Checked.{Checked}
-use Rattle.checker.specs.Checked.{answer, CheckPromise}
-use Rattle.checker.specs.PlanFile.{planBytes}
-use Rattle.checker.specs.Sheets.{k4, k9, k10}
-use Rattle.plan.specs.declared.Planned.{Planned}
-use Rattle.plan.specs.Planning.{numbersOf as plansNumbers}
-use Rattle.plan.specs.Promise.{PlanPromise}
-use Rattle.desk.specs.declared.Changed.{Changed}
-use Rattle.desk.specs.declared.Asked.{Asked}
-use Rattle.desk.specs.Asking.{numbersOf}
-use Rattle.desk.specs.Promise.{AddPromise, CorrectPromise, RemovePromise, AskPromise}
+use Rattle.job.specs.Job.{recordOf, jobOf}
+use Rattle.job.specs.Block.{blockOf}
+use Rattle.plan.specs.File.{fileOf}
+use Rattle.khonvertseg.specs.declared.KhonChanged.{KhonChanged}
+use Rattle.khonvertseg.specs.declared.KhonAsked.{KhonAsked}
+use Rattle.khonvertseg.specs.declared.KhonPlanned.{KhonPlanned}
+use Rattle.khonvertseg.specs.declared.KhonChecked.{KhonChecked}
+use Rattle.khonvertseg.specs.Calls.{KhonOpens, KhonAdds, KhonCorrects, KhonRemoves, KhonAsks, KhonPlans, KhonChecks}
 
 pub data Step : Type 0 where
-  add : Record → Step
-  correct : ℕ → Record → Step
+  add : Piece → Step
+  correct : ℕ → Piece → Step
   remove : ℕ → Step
   ask : ℕ → ℕ → Step
   -- into a buffer of so many bytes
@@ -49,107 +47,140 @@ abbrev pub emptyCells : Job → List ℕ → ℕ
 emptyCells job t = countInBox (job .width) (job .height) (isEmpty (job .width) t)
 
 -- What is said of a change and of an answer.
-abbrev pub saidOfChange : Changed → List ℕ → Said
+abbrev pub saidOfChange : KhonChanged → List ℕ → Said
 saidOfChange r t = said (r .refusal) 0 0 (emptyCells (r .job) t)
 
-abbrev pub saidOfAnswer : Job → Asked → List ℕ → Said
-saidOfAnswer job r t = said (numbersOf r .refusal) (numbersOf r .value) (numbersOf r .worked) (emptyCells job t)
+abbrev pub saidOfAnswer : Job → KhonAsked → List ℕ → Said
+saidOfAnswer job r t = said (r .refusal) (r .value) (r .worked) (emptyCells job t)
 
-abbrev pub saidOfPlan : Job → List ℕ → Planned → List ℕ → Said
-saidOfPlan job t r o =
-    let n = plansNumbers r in
-    record { refusal = n .refusal; value = n .value; worked = 0; empties = emptyCells job t; file = take (n .length) o }
+abbrev pub saidOfPlan : Job → List ℕ → KhonPlanned → List ℕ → Said
+saidOfPlan job t r o = record { refusal = r .refusal; value = r .value; worked = 0; empties = emptyCells job t; file = take (r .length) o }
 
-abbrev pub saidOfCheck : Job → List ℕ → Checked → Said
-saidOfCheck job t r = said (answer r .number) (answer r .value) 0 (emptyCells job t)
+abbrev pub saidOfCheck : Job → List ℕ → KhonChecked → Said
+saidOfCheck job t r = said (r .refusal) (r .value) 0 (emptyCells job t)
 
 -- The steps, called one after the other by a library that keeps the promises, said this.
 pub data Runs : Job → List ℕ → List Step → List Said → Type 0 where
   done : {job : Job} {t : List ℕ} → Runs job t [] []
-  add : {job : Job} {t t' : List ℕ} {r : Changed} {steps : List Step} {sayings : List Said} (piece : Record) → AddPromise job t piece r t' → Runs (r .job) t' steps sayings → Runs job t (Step.add piece ∷ steps) (saidOfChange r t' ∷ sayings)
-  correct : {job : Job} {t t' : List ℕ} {r : Changed} {steps : List Step} {sayings : List Said} (k : ℕ) (piece : Record) → CorrectPromise job t k piece r t' → Runs (r .job) t' steps sayings → Runs job t (Step.correct k piece ∷ steps) (saidOfChange r t' ∷ sayings)
-  remove : {job : Job} {t t' : List ℕ} {r : Changed} {steps : List Step} {sayings : List Said} (k : ℕ) → RemovePromise job t k r t' → Runs (r .job) t' steps sayings → Runs job t (Step.remove k ∷ steps) (saidOfChange r t' ∷ sayings)
-  ask : {job : Job} {t t' : List ℕ} {r : Asked} {steps : List Step} {sayings : List Said} (x y : ℕ) → AskPromise job t x y r t' → Runs job t' steps sayings → Runs job t (Step.ask x y ∷ steps) (saidOfAnswer job r t' ∷ sayings)
-  plan : {job : Job} {t o' : List ℕ} {r : Planned} {steps : List Step} {sayings : List Said} (x y room : ℕ) (o : List ℕ) → length o ≡ room → PlanPromise job t x y o r o' → Runs job t steps sayings → Runs job t (Step.plan x y room ∷ steps) (saidOfPlan job t r o' ∷ sayings)
-  check : {job : Job} {t : List ℕ} {r : Checked} {steps : List Step} {sayings : List Said} (file : List ℕ) → CheckPromise file r → Runs job t steps sayings → Runs job t (Step.check file ∷ steps) (saidOfCheck job t r ∷ sayings)
+  add : {job : Job} {t t' : List ℕ} {r : KhonChanged} {steps : List Step} {sayings : List Said} (piece : Piece) → KhonAdds job t (recordOf piece) r t' → Runs (r .job) t' steps sayings → Runs job t (Step.add piece ∷ steps) (saidOfChange r t' ∷ sayings)
+  correct : {job : Job} {t t' : List ℕ} {r : KhonChanged} {steps : List Step} {sayings : List Said} (k : ℕ) (piece : Piece) → KhonCorrects job t k (recordOf piece) r t' → Runs (r .job) t' steps sayings → Runs job t (Step.correct k piece ∷ steps) (saidOfChange r t' ∷ sayings)
+  remove : {job : Job} {t t' : List ℕ} {r : KhonChanged} {steps : List Step} {sayings : List Said} (k : ℕ) → KhonRemoves job t k r t' → Runs (r .job) t' steps sayings → Runs job t (Step.remove k ∷ steps) (saidOfChange r t' ∷ sayings)
+  ask : {job : Job} {t t' : List ℕ} {r : KhonAsked} {steps : List Step} {sayings : List Said} (x y : ℕ) → KhonAsks (blockOf job) t x y r t' → Runs job t' steps sayings → Runs job t (Step.ask x y ∷ steps) (saidOfAnswer job r t' ∷ sayings)
+  plan : {job : Job} {t o' : List ℕ} {r : KhonPlanned} {steps : List Step} {sayings : List Said} (x y room : ℕ) (o : List ℕ) → length o ≡ room → KhonPlans (blockOf job) t x y o r o' → Runs job t steps sayings → Runs job t (Step.plan x y room ∷ steps) (saidOfPlan job t r o' ∷ sayings)
+  check : {job : Job} {t : List ℕ} {r : KhonChecked} {steps : List Step} {sayings : List Said} (file : List ℕ) → Bytes file → KhonChecks file r → Runs job t steps sayings → Runs job t (Step.check file ∷ steps) (saidOfCheck job t r ∷ sayings)
 
--- A sheet, what is called on it once it is opened, and what is to be said.
+-- A sheet, what is called on it once it is opened, what is to be said, and the best value of x by y with the pieces that it has at the end.
 pub record Sheet : Type 0 where
   pub width : ℕ
   pub height : ℕ
   pub steps : List Step
   pub sayings : List Said
+  pub x : ℕ
+  pub y : ℕ
+  pub best : ℕ
 
-abbrev pub piece : ℕ → ℕ → ℕ → Record
-piece p q v = record { width = p; height = q; value = v }
+-- A row of the table: the sheet's sides, the steps, what is said; the question at the end and its best value.
+abbrev pub sheet : ℕ → ℕ → List Step → List Said → ℕ → ℕ → ℕ → Sheet
+sheet width height steps sayings x y best = record { width = width; height = height; steps = steps; sayings = sayings; x = x; y = y; best = best }
 
--- The file of a tree on a sheet with these pieces, with no note.
-abbrev pub fileOf : ℕ → ℕ → List Piece → Tree → List ℕ
-fileOf a b pieces tree = planBytes [] (jobOf a b pieces) tree
+-- The plan file of a tree on a whole sheet with these pieces.
+abbrev pub sheetFile : ℕ → ℕ → List Piece → Tree → List ℕ
+sheetFile a b pieces tree = fileOf (jobOf a b pieces) a b tree
 
--- "K1: stock 3 by 3, pieces 1 by 2 value 2, 2 by 3 value 6: 8."
+-- "K1: stock 3 by 3, pieces 1 by 2 value 2, 2 by 3 value 6 (..): 8." Document 01 lists its tree.
+abbrev pub k1Asked : List Step
+k1Asked = Step.add (sized 1 2 2) ∷ Step.add (sized 2 3 6) ∷ Step.ask 3 3 ∷ []
+
+abbrev pub k1Said : List Said
+k1Said = said 0 0 0 9 ∷ said 0 0 0 9 ∷ said 0 8 9 0 ∷ []
+
+abbrev pub K1 : Sheet
+K1 =
+    sheet 3 3
+    (k1Asked ++ (Step.plan 3 3 100 ∷ []))
+    (k1Said ++ (wrote 8 (sheetFile 3 3 (sized 1 2 2 ∷ sized 2 3 6 ∷ []) (Tree.lineV 1 (Tree.lineH 2 (Tree.pieceP 1) Tree.scrapS) (Tree.pieceP 2))) ∷ []))
+    3 3 8
+
 -- "K2: K1 asked, then piece 2 corrected to 2 by 2 value 4: exactly four cells emptied; asking 3 by 3 gives 6, four worked out."
--- Document 01 lists K1's tree.
-abbrev pub listed : Tree
-listed = Tree.lineV 1 (Tree.lineH 2 (Tree.pieceP 1) Tree.scrapS) (Tree.pieceP 2)
-
-abbrev pub K1K2 : Sheet
-K1K2 =
-    record {
-      width = 3;
-      height = 3;
-      steps = Step.add (piece 1 2 2) ∷ Step.add (piece 2 3 6) ∷ Step.ask 3 3 ∷ Step.plan 3 3 100 ∷ Step.correct 2 (piece 2 2 4) ∷ Step.ask 3 3 ∷ [];
-      sayings = said 0 0 0 9 ∷ said 0 0 0 9 ∷ said 0 8 9 0 ∷ wrote 8 (fileOf 3 3 (sized 1 2 2 ∷ sized 2 3 6 ∷ []) listed) ∷ said 0 0 0 4 ∷ said 0 6 4 0 ∷ [];
-    }
+abbrev pub K2 : Sheet
+K2 =
+    sheet 3 3
+    (k1Asked ++ (Step.correct 2 (sized 2 2 4) ∷ Step.ask 3 3 ∷ []))
+    (k1Said ++ (said 0 0 0 4 ∷ said 0 6 4 0 ∷ []))
+    3 3 6
 
 -- "K3: after K2's correction, ask 1 by 3: 2, none worked out."
 abbrev pub K3 : Sheet
 K3 =
-    record {
-      width = 3;
-      height = 3;
-      steps = Step.add (piece 1 2 2) ∷ Step.add (piece 2 3 6) ∷ Step.ask 3 3 ∷ Step.correct 2 (piece 2 2 4) ∷ Step.ask 1 3 ∷ [];
-      sayings = said 0 0 0 9 ∷ said 0 0 0 9 ∷ said 0 8 9 0 ∷ said 0 0 0 4 ∷ said 0 2 0 4 ∷ [];
-    }
+    sheet 3 3
+    (k1Asked ++ (Step.correct 2 (sized 2 2 4) ∷ Step.ask 1 3 ∷ []))
+    (k1Said ++ (said 0 0 0 4 ∷ said 0 2 0 4 ∷ []))
+    1 3 2
 
--- "K4: no pieces, 1 by 1: 0. Its file, in hex: .."
+-- "K4: no pieces, 1 by 1: 0. Its file, in hex: 01 00 01 00 00 00 53 00 00 09 00 00 00 03 00 00 00 00 00 00 00 3C F5 29 6E."
+abbrev pub k4 : List ℕ
+k4 = 0x01 ∷ 0x00 ∷ 0x01 ∷ 0x00 ∷ 0x00 ∷ 0x00 ∷ 0x53 ∷ 0x00 ∷ 0x00 ∷ 0x09 ∷ 0x00 ∷ 0x00 ∷ 0x00 ∷ 0x03 ∷ 0x00 ∷ 0x00 ∷ 0x00 ∷ 0x00 ∷ 0x00 ∷ 0x00 ∷ 0x00 ∷ 0x3C ∷ 0xF5 ∷ 0x29 ∷ 0x6E ∷ []
+
 -- "K9: K4's file without its last byte: 9." "K10: K4's file with its first byte 2: 10."
 abbrev pub K4K9K10 : Sheet
 K4K9K10 =
-    record {
-      width = 1;
-      height = 1;
-      steps = Step.ask 1 1 ∷ Step.plan 1 1 25 ∷ Step.check k4 ∷ Step.check k9 ∷ Step.check k10 ∷ [];
-      sayings = said 0 0 1 0 ∷ wrote 0 k4 ∷ said 0 0 0 0 ∷ said 9 0 0 0 ∷ said 10 0 0 0 ∷ [];
-    }
+    sheet 1 1
+    (Step.ask 1 1 ∷ Step.plan 1 1 25 ∷ Step.check k4 ∷ Step.check (take 24 k4) ∷ Step.check (set k4 0 2) ∷ [])
+    (said 0 0 1 0 ∷ wrote 0 k4 ∷ said 0 0 0 0 ∷ said 9 0 0 0 ∷ said 10 0 0 0 ∷ [])
+    1 1 0
 
 -- "K5: 3 by 3, one piece 2 by 2 value 5: 5; nodes V2 H2 P1 S0 S0."
 abbrev pub K5 : Sheet
 K5 =
-    record {
-      width = 3;
-      height = 3;
-      steps = Step.add (piece 2 2 5) ∷ Step.ask 3 3 ∷ Step.plan 3 3 100 ∷ [];
-      sayings = said 0 0 0 9 ∷ said 0 5 9 0 ∷ wrote 5 (fileOf 3 3 (sized 2 2 5 ∷ []) (Tree.lineV 2 (Tree.lineH 2 (Tree.pieceP 1) Tree.scrapS) Tree.scrapS)) ∷ [];
-    }
+    sheet 3 3
+    (Step.add (sized 2 2 5) ∷ Step.ask 3 3 ∷ Step.plan 3 3 100 ∷ [])
+    (said 0 0 0 9 ∷ said 0 5 9 0 ∷ wrote 5 (sheetFile 3 3 (sized 2 2 5 ∷ []) (Tree.lineV 2 (Tree.lineH 2 (Tree.pieceP 1) Tree.scrapS) Tree.scrapS)) ∷ [])
+    3 3 5
 
 -- "K6: 5 by 4, same piece: 20."
 abbrev pub K6 : Sheet
-K6 = record { width = 5; height = 4; steps = Step.add (piece 2 2 5) ∷ Step.ask 5 4 ∷ []; sayings = said 0 0 0 20 ∷ said 0 20 20 0 ∷ [] }
+K6 =
+    sheet 5 4
+    (Step.add (sized 2 2 5) ∷ Step.ask 5 4 ∷ [])
+    (said 0 0 0 20 ∷ said 0 20 20 0 ∷ [])
+    5 4 20
 
 -- "K7: 1 by 2, piece 2 by 1: 0." (docs/DECISIONS.md, 6: its value is 1.)
 abbrev pub K7 : Sheet
-K7 = record { width = 1; height = 2; steps = Step.add (piece 2 1 1) ∷ Step.ask 1 2 ∷ []; sayings = said 0 0 0 2 ∷ said 0 0 2 0 ∷ [] }
+K7 =
+    sheet 1 2
+    (Step.add (sized 2 1 1) ∷ Step.ask 1 2 ∷ [])
+    (said 0 0 0 2 ∷ said 0 0 2 0 ∷ [])
+    1 2 0
 
 -- "K8: 2 by 3, one piece 2 by 3 value 6: 6; one node, P1."
 abbrev pub K8 : Sheet
 K8 =
-    record {
-      width = 2;
-      height = 3;
-      steps = Step.add (piece 2 3 6) ∷ Step.ask 2 3 ∷ Step.plan 2 3 100 ∷ [];
-      sayings = said 0 0 0 6 ∷ said 0 6 6 0 ∷ wrote 6 (fileOf 2 3 (sized 2 3 6 ∷ []) (Tree.pieceP 1)) ∷ [];
-    }
+    sheet 2 3
+    (Step.add (sized 2 3 6) ∷ Step.ask 2 3 ∷ Step.plan 2 3 100 ∷ [])
+    (said 0 0 0 6 ∷ said 0 6 6 0 ∷ wrote 6 (sheetFile 2 3 (sized 2 3 6 ∷ []) (Tree.pieceP 1)) ∷ [])
+    2 3 6
 
 abbrev pub sheets : List Sheet
-sheets = K1K2 ∷ K3 ∷ K4K9K10 ∷ K5 ∷ K6 ∷ K7 ∷ K8 ∷ []
+sheets = K1 ∷ K2 ∷ K3 ∷ K4K9K10 ∷ K5 ∷ K6 ∷ K7 ∷ K8 ∷ []
+
+-- The pieces after these steps.
+unfoldable pub piecesAfter : List Piece → List Step → List Piece
+piecesAfter pieces [] = pieces
+piecesAfter pieces (Step.add piece ∷ steps) = piecesAfter (added pieces piece) steps
+piecesAfter pieces (Step.correct k piece ∷ steps) = piecesAfter (corrected pieces k piece) steps
+piecesAfter pieces (Step.remove k ∷ steps) = piecesAfter (removed pieces k) steps
+piecesAfter pieces (Step.ask x y ∷ steps) = piecesAfter pieces steps
+piecesAfter pieces (Step.plan x y room ∷ steps) = piecesAfter pieces steps
+piecesAfter pieces (Step.check file ∷ steps) = piecesAfter pieces steps
+
+-- Any library that keeps the promises says of the sheet what is stated, whatever the table held before; and the best value that is
+-- stated is the best value.
+pub record Holds (s : Sheet) : Type 0 where
+  pub said : (t t' : List ℕ) (r : KhonChanged) (sayings : List Said) → KhonOpens (s .width) (s .height) t r t' → r .refusal ≡ 0 → Runs (r .job) t' (s .steps) sayings → sayings ≡ s .sayings
+  pub best : Best (Lays (piecesAfter [] (s .steps))) (s .x) (s .y) (s .best)
+
+-- Each sheet of a list.
+abbrev pub Each : (Sheet → Type 0) → List Sheet → Type 0
+Each P [] = Unit {0}
+Each P (s ∷ rest) = P s × Each P rest

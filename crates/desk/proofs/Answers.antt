@@ -1,21 +1,19 @@
 -- How a call joins its refusal and its work, over the definitions.
-use Prim.Native.Nat.{ℕ, zero, suc, _-_, _≤_, _<_}
-use mathlib.Core.Bool.{Bool, true, false, _||_}
+use Prim.Native.Nat.{ℕ, zero, suc, _-_, _≤_}
+use mathlib.Core.Bool.{_||_}
 use mathlib.Core.List.{List}
 use mathlib.Core.Path.{_≡_, refl, sym, ap, ap₂, _∙_, subst}
 use native.Mathlib.Omega.{arith}
-use lib.ListN.{length, getD}
-use Rattle.cells.specs.Cells.{cellOf, Holds}
-use Rattle.cells.specs.Emptied.{fits, emptied, emptiedWhere}
+use lib.ListN.{length}
+use Rattle.cells.specs.Cells.{cellOf}
+use Rattle.cells.specs.Inner.{Holds, fits, emptied, emptiedWhere}
 use Rattle.cells.proofs.Emptied.{emptied-length, emptied-twice}
 use Rattle.job.specs.declared.Piece.{Piece as Record}
 use Rattle.job.specs.declared.Job.{Job}
 use Rattle.desk.specs.declared.Changed.{Changed}
-use Rattle.desk.specs.declared.Asked.{Asked}
 use Rattle.desk.specs.declared.Asked.the-variants.{Answered, Refused}
-use Rattle.desk.specs.Refusals.{accepted, Usable}
-use Rattle.desk.specs.Changing.{changed, emptiedSize}
-use Rattle.desk.specs.Asking.{answerWith}
+use Rattle.desk.specs.Refusals.{Usable}
+use Rattle.desk.specs.Inner.{accepted, changed, emptiedSize, answerWith}
 use Rattle.desk.proofs.Exactly.{usable-holds}
 
 pub given {ℓ} : {A : Type ℓ} {r refusal : ℕ} (after left : A) → r ≡ refusal → r ≡ 0 → after ≡ accepted refusal after left

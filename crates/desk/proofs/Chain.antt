@@ -1,14 +1,13 @@
 -- A chain of refusals, link by link, as the code goes along it.
-use Prim.Native.Nat.{ℕ, zero, suc, _*_, _≤_, _<_}
+use Prim.Native.Nat.{ℕ, zero, suc, _≤_, _<_}
 use mathlib.Core.Bool.{Bool, true, false, cond, not}
-use mathlib.Core.List.{List}
-use mathlib.Core.Path.{_≡_, refl, sym, ap, _∙_, subst}
+use mathlib.Core.Path.{_≡_, refl, sym, ap, _∙_}
 use native.Mathlib.Omega.{arith}
 use lib.Dec.{ltb, eqb}
-use Rattle.laws.specs.Says.{Says}
+use Rattle.laws.specs.Inner.{Says}
 use Rattle.laws.proofs.Says.{says-lt, says-eq, says-no}
 use Rattle.laws.proofs.Tests.{not-true, not-false}
-use Rattle.desk.specs.Refusals.{orElse}
+use Rattle.desk.specs.Inner.{orElse}
 
 pub first-refuses : {r first : ℕ} (later : ℕ) → r ≡ first → (r ≡ 0 → ⊥) → r ≡ orElse first later
 unfolding orElse

@@ -4,28 +4,29 @@ use mathlib.Core.Bool.{Bool, true, false, cond, not, _&&_}
 use mathlib.Core.List.{List}
 use mathlib.Core.Path.{_≡_, refl, sym, ap, _∙_, subst}
 use native.Mathlib.Omega.{arith}
-use mathlib.Core.Logic.{⊎-elim, _↔_}
+use mathlib.Core.Logic.{⊎-elim}
 use lib.Dec.{ltb, eqb}
 use lib.ListN.{length}
-use Rattle.laws.specs.Says.{Says}
-use Rattle.laws.proofs.Says.{says-lt, says-eq, says-no, says-false, says-and, says-iff, true≢false}
+use Rattle.laws.specs.Inner.{Says}
+use Rattle.laws.proofs.Says.{says-lt, says-eq, says-false, says-and, says-iff, true≢false}
 use Rattle.laws.proofs.Order.{le-or-lt}
 use Rattle.cutting.proofs.Bound.{most}
 use Rattle.cutting.specs.Limits.{sideMax, piecesMax}
-use Rattle.cutting.specs.Piece.{PieceInRange, Inside}
+use Rattle.cutting.specs.Piece.{Inside}
 use Rattle.cells.specs.Cells.{cellOf}
-use Rattle.cells.specs.Box.{exceeds, anyInBox}
+use Rattle.cells.specs.Inner.{exceeds, anyInBox, Holds}
 use Rattle.laws.proofs.Tests.{not-false}
-use Rattle.cells.specs.Cells.{Holds}
 use Rattle.cells.proofs.Places.{area-fits, holds-lower}
 use Rattle.cells.proofs.Box.{anyInBox-says, exceeds-says}
 use Rattle.fill.specs.Filled.{Bounded}
 use Rattle.job.specs.declared.Piece.{Piece as Record}
 use Rattle.job.specs.declared.Job.{Job}
-use Rattle.job.specs.Range.{JobInRange, within, pieceInRange, jobInRange}
+use Rattle.job.specs.Range.{JobInRange}
+use Rattle.job.specs.Inner.{within, pieceInRange, jobInRange}
 use Rattle.job.proofs.Range.{RecordIn, within-says, piece-says, job-says}
 use Rattle.desk.proofs.Chain.{first-refuses, first-passes, unless-fails, unless-holds, if-holds, if-fails}
-use Rattle.desk.specs.Refusals.{orElse, area, jobRefused, openRefused, addRefused, removeRefused, correctRefused, askRefused, OpenRefusal, Usable, JobRefusal, AddRefusal, IsNumber, RemoveRefusal, CorrectRefusal, AskRefusal}
+use Rattle.desk.specs.Refusals.{area, OpenRefusal, Usable, JobRefusal, AddRefusal, IsNumber, RemoveRefusal, CorrectRefusal, AskRefusal}
+use Rattle.desk.specs.Inner.{orElse, jobRefused, openRefused, addRefused, removeRefused, correctRefused, askRefused}
 
 pub inside-says : (x y a b : ℕ) → Says (within x a && within y b) (Inside x y a b)
 inside-says x y a b =

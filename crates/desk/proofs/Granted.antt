@@ -1,29 +1,30 @@
 -- What an accepted call may count on: refusal number 0 means that every condition holds.
-use Prim.Native.Nat.{ℕ, zero, suc, _-_, _*_, _≤_, _<_}
+use Prim.Native.Nat.{ℕ, _-_, _≤_, _<_}
 use mathlib.Core.Bool.{Bool}
 use mathlib.Core.List.{List}
-use mathlib.Core.Path.{_≡_, refl, sym, ap, _∙_, subst}
+use mathlib.Core.Path.{_≡_, sym, ap, _∙_, subst}
 use native.Mathlib.Omega.{arith}
 use lib.ListN.{length, getD}
-use Rattle.cutting.specs.Limits.{sideMax, piecesMax, valueMax}
+use Rattle.cutting.specs.Limits.{piecesMax}
 use Rattle.cutting.specs.Piece.{Inside, PieceInRange}
-use Rattle.cells.specs.Cells.{cellOf, Holds}
+use Rattle.cells.specs.Cells.{cellOf}
+use Rattle.cells.specs.Inner.{Holds}
 use Rattle.cells.specs.Box.{isEmpty, countInBox}
 use Rattle.cells.proofs.Places.{holds-lower}
-use Rattle.points.specs.Marks.{marksOf}
-use Rattle.points.specs.Rows.{Rows, rowsOf}
-use Rattle.fill.specs.Filled.{Bounded, Valued, BoxReady, filled}
+use Rattle.points.specs.Inner.{marksOf, Rows, rowsOf}
+use Rattle.fill.specs.Filled.{Bounded}
+use Rattle.fill.specs.Inner.{filled, Valued, BoxReady}
 use Rattle.fill.proofs.Growing.{filled-length}
 use Rattle.job.specs.declared.Piece.{Piece as Record}
 use Rattle.job.specs.declared.Job.{Job}
-use Rattle.job.specs.Job.{noRecord, pieceOf, piecesOf}
-use Rattle.job.specs.Row.{rowOf}
+use Rattle.job.specs.Job.{piecesOf}
+use Rattle.job.specs.Inner.{rowOf}
 use Rattle.job.proofs.Range.{RecordIn, in-range-each}
 use Rattle.job.proofs.Pieces.{pieces-length, pieces-at}
 use Rattle.job.proofs.Rows.{row-at}
-use Rattle.desk.specs.Refusals.{openRefused, addRefused, removeRefused, correctRefused, askRefused, OpenRefusal, AddRefusal, Usable, IsNumber, RemoveRefusal, CorrectRefusal, AskRefusal}
+use Rattle.desk.specs.Refusals.{OpenRefusal, AddRefusal, Usable, IsNumber, CorrectRefusal, AskRefusal}
+use Rattle.desk.specs.Inner.{openRefused, addRefused, removeRefused, correctRefused, askRefused, jobRows, rowsOfPieces, filledFor}
 use Rattle.desk.specs.Changing.{recordOfPiece}
-use Rattle.desk.specs.Asking.{jobRows, rowsOfPieces, filledFor}
 use Rattle.desk.proofs.Exactly.{open-refusal, add-refusal, remove-refusal, correct-refusal, ask-refusal, removable, usable-holds}
 
 pub open-granted : (a b : ℕ) (t : List ℕ) {r : ℕ} → r ≡ openRefused a b t → r ≡ 0 → Holds a b t

@@ -1,26 +1,24 @@
--- The rows that are made of a job hold its pieces and the marks of its P and Q; and any two answers that keep a promise are equal.
-use Prim.Native.Nat.{ℕ, zero, suc, _≤_, _<_}
+-- The rows that are made of a job hold its pieces and the marks of its P and Q.
+use Prim.Native.Nat.{ℕ, _≤_, _<_}
 use mathlib.Core.List.{List}
-use mathlib.Core.Path.{_≡_, refl, sym, ap, _∙_, subst}
+use mathlib.Core.Path.{_≡_, sym, ap, _∙_, subst}
 use mathlib.Core.Logic.{_↔_}
 use native.Mathlib.Omega.{arith}
 use lib.ListN.{length, getD}
 use Rattle.cutting.specs.Limits.{sideMax, piecesMax}
-use Rattle.cutting.specs.Piece.{Piece, sized, noPiece, Lays, Turned}
+use Rattle.cutting.specs.Piece.{Piece, noPiece, Lays, Turned}
 use Rattle.cutting.specs.Points.{Width}
-use Rattle.cutting.proofs.Listed.{Listed, lays-listed, listed-lays}
-use Rattle.points.specs.Marks.{Size, marksOf}
-use Rattle.points.specs.Rows.{rowsOf}
+use Rattle.cutting.proofs.Listed.{lays-listed, listed-lays}
+use Rattle.points.specs.Inner.{Size, rowsOf}
 use Rattle.points.proofs.Points.{marks-say}
-use Rattle.fill.proofs.Worth.{Hold, Among}
-use Rattle.job.specs.declared.Piece.{Piece as Record}
+use Rattle.fill.proofs.Worth.{Hold}
 use Rattle.job.specs.declared.Job.{Job}
-use Rattle.job.specs.Row.{rowOf}
+use Rattle.job.specs.Job.{piecesOf}
+use Rattle.job.specs.Range.{JobInRange}
+use Rattle.job.specs.Inner.{rowOf}
+use Rattle.job.proofs.Pieces.{pieces-length}
 use Rattle.job.proofs.Rows.{row-at}
-use Rattle.desk.specs.declared.Changed.{Changed}
-use Rattle.desk.specs.declared.Asked.{Asked}
-use Rattle.desk.specs.Asking.{rowsOfPieces}
-use Rattle.desk.specs.Promise.{OpenPromise, AddPromise, CorrectPromise, RemovePromise, AskPromise}
+use Rattle.desk.specs.Inner.{rowsOfPieces, jobRows}
 
 module _ (pieces : List Piece) (few : length pieces ≤ piecesMax) where
   -- What stands at an index of a row.
@@ -50,3 +48,10 @@ module _ (pieces : List Piece) (few : length pieces ≤ piecesMax) where
         marksP = λ c l. marks-say (Lays pieces) _ (length pieces) a c widths (omega arith);
         marksQ = λ d l. marks-say (Turned (Lays pieces)) _ (length pieces) b d heights (omega arith);
       }
+
+-- So do those of a job in range.
+pub job-hold : (job : Job) → JobInRange job → Hold (jobRows job) (Lays (piecesOf job)) (job .width) (job .height)
+unfolding jobRows
+job-hold job r =
+    subst (λ (n : ℕ). Hold (rowsOfPieces (piecesOf job) n (job .width) (job .height)) (Lays (piecesOf job)) (job .width) (job .height)) (pieces-length job)
+    (rows-hold (piecesOf job) (omega (arith, pieces-length job, r .countMost)) (job .width) (job .height) (r .widthMost) (r .heightMost))

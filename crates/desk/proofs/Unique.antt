@@ -6,7 +6,7 @@ use Rattle.job.specs.declared.Piece.{Piece as Record}
 use Rattle.job.specs.declared.Job.{Job}
 use Rattle.desk.specs.declared.Changed.{Changed}
 use Rattle.desk.specs.declared.Asked.{Asked}
-use Rattle.desk.specs.Promise.{OpenPromise, AddPromise, CorrectPromise, RemovePromise, AskPromise}
+use Rattle.desk.specs.Inner.{OpenPromise, AddPromise, CorrectPromise, RemovePromise, AskPromise}
 
 pub open-unique : (a b : ℕ) (t : List ℕ) {r s : Changed} {t' s' : List ℕ} → OpenPromise a b t r t' → OpenPromise a b t s s' → (r ≡ s) × (t' ≡ s')
 open-unique a b t p q = (p .0 ∙ sym (q .0), p .1 ∙ sym (q .1))

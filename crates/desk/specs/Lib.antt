@@ -2,4 +2,4 @@
 pub mod Refusals
 pub mod Changing
 pub mod Asking
-pub mod Promise
+pub mod Inner

@@ -1,7 +1,7 @@
 // Open, add, correct, remove: each answers its number and the job, and empties exactly the cells that the change can touch.
 ghost use mathlib.Core.Path.{_≡_};
-ghost use Rattle.desk.specs.Changing.{emptiedSize, recordOfPiece};
-ghost use Rattle.desk.specs.Promise.{OpenPromise, AddPromise, CorrectPromise, RemovePromise};
+ghost use Rattle.desk.specs.Changing.{recordOfPiece};
+ghost use Rattle.desk.specs.Inner.{emptiedSize, OpenPromise, AddPromise, CorrectPromise, RemovePromise};
 ghost use Prim.Native.Nat.{_≤_};
 ghost use Rattle.cutting.specs.Limits.{piecesMax};
 ghost use Rattle.desk.specs.Refusals.{Usable, IsNumber};

@@ -1,8 +1,8 @@
 // The numbers that the calls on a table refuse with, and the chain of refusals of each call.
 ghost use mathlib.Core.Path.{_≡_};
 ghost use mathlib.Core.Bool.{_&&_};
-ghost use Rattle.job.specs.Range.{within};
-ghost use Rattle.desk.specs.Refusals.{jobRefused, openRefused, addRefused, correctRefused, removeRefused, askRefused};
+ghost use Rattle.job.specs.Inner.{within};
+ghost use Rattle.desk.specs.Inner.{jobRefused, openRefused, addRefused, correctRefused, removeRefused, askRefused};
 use job::Job;
 use job::Piece;
 
@@ -68,7 +68,7 @@ pub fn job_refused(job: Job, t: &[u32]) -> u32
     0
 }
 
-pub fn open_refused(a: u32, b: u32, t: &[u32]) -> u32
+pub(crate) fn open_refused(a: u32, b: u32, t: &[u32]) -> u32
     ensures { λ r. ⌜ r ≡ openRefused a b (now (t .entry)) ⌝ }
 {
     if !inside(a, b, Job::SIDE_MAX, Job::SIDE_MAX) {
@@ -80,7 +80,7 @@ pub fn open_refused(a: u32, b: u32, t: &[u32]) -> u32
     0
 }
 
-pub fn add_refused(job: Job, t: &[u32], piece: Piece) -> u32
+pub(crate) fn add_refused(job: Job, t: &[u32], piece: Piece) -> u32
     ensures { λ r. ⌜ r ≡ addRefused job (now (t .entry)) piece ⌝ }
 {
     let first = job_refused(job, t);
@@ -96,7 +96,7 @@ pub fn add_refused(job: Job, t: &[u32], piece: Piece) -> u32
     0
 }
 
-pub fn remove_refused(job: Job, t: &[u32], number: u32) -> u32
+pub(crate) fn remove_refused(job: Job, t: &[u32], number: u32) -> u32
     ensures { λ r. ⌜ r ≡ removeRefused job (now (t .entry)) number ⌝ }
 {
     let first = job_refused(job, t);
@@ -109,7 +109,7 @@ pub fn remove_refused(job: Job, t: &[u32], number: u32) -> u32
     0
 }
 
-pub fn correct_refused(job: Job, t: &[u32], number: u32, piece: Piece) -> u32
+pub(crate) fn correct_refused(job: Job, t: &[u32], number: u32, piece: Piece) -> u32
     ensures { λ r. ⌜ r ≡ correctRefused job (now (t .entry)) number piece ⌝ }
 {
     let first = remove_refused(job, t, number);
@@ -122,7 +122,7 @@ pub fn correct_refused(job: Job, t: &[u32], number: u32, piece: Piece) -> u32
     0
 }
 
-pub fn ask_refused(job: Job, t: &[u32], x: u32, y: u32) -> u32
+pub(crate) fn ask_refused(job: Job, t: &[u32], x: u32, y: u32) -> u32
     ensures { λ r. ⌜ r ≡ askRefused job (now (t .entry)) x y ⌝ }
 {
     let first = job_refused(job, t);

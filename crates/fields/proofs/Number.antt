@@ -1,14 +1,14 @@
 -- The laws of little-endian numbers: reading and writing are inverse to each other, at any place of a row.
-use Prim.Native.Nat.{ℕ, zero, suc, _+_, _/_, _%_, _≤_, _<_}
+use Prim.Native.Nat.{ℕ, suc, _+_, _/_, _%_, _≤_, _<_}
 use mathlib.Core.Path.{_≡_, refl, sym, ap, ap₂, _∙_}
 use mathlib.Core.List.{List, [], _∷_, _++_, append-assoc}
 use native.Mathlib.Omega.{arith}
 use native.Mathlib.Nat.{add-zero}
 use native.Mathlib.Numerals.{add-one}
-use lib.ListN.{length, take, drop, getD, set, take-append-drop}
+use lib.ListN.{length, take, drop, getD, set}
 use lib.Seq.{getD-drop, drop-cons, drop-at, drop-drop, take-add, sets}
 use Rattle.laws.specs.Put.{put}
-use Rattle.laws.proofs.Put.{put-sets, put-part, put-put}
+use Rattle.laws.proofs.Put.{put-sets, put-put}
 use Rattle.fields.specs.Number.{joined, joinedHalves, number2Of, number4Of, bytes2, bytes4, Bytes}
 
 pub bytes2-length : (n : ℕ) → length (bytes2 n) ≡ 2
@@ -18,20 +18,6 @@ bytes2-length n = refl
 pub bytes4-length : (n : ℕ) → length (bytes4 n) ≡ 4
 unfolding bytes2 bytes4
 bytes4-length n = refl
-
-pub bytes2-below : (n : ℕ) → Bytes (bytes2 n)
-unfolding bytes2
-bytes2-below n zero = omega arith
-bytes2-below n (suc zero) = omega arith
-bytes2-below n (suc (suc k)) = omega arith
-
-pub bytes4-below : (n : ℕ) → Bytes (bytes4 n)
-unfolding bytes2 bytes4
-bytes4-below n zero = omega arith
-bytes4-below n (suc zero) = omega arith
-bytes4-below n (suc (suc zero)) = omega arith
-bytes4-below n (suc (suc (suc zero))) = omega arith
-bytes4-below n (suc (suc (suc (suc k)))) = omega arith
 
 -- A number at a place of a row is one at the start of what is left there.
 pub number2-drop : (s : List ℕ) (at : ℕ) → number2Of s at ≡ number2Of (drop at s) 0
@@ -67,34 +53,12 @@ pub number4-behind : (p : List ℕ) (n : ℕ) (r : List ℕ) (at : ℕ) → leng
 number4-behind p n r at e h =
     number4-drop (p ++ (bytes4 n ++ r)) at ∙ (ap (λ (l : List ℕ). number4Of l 0) (drop-at p (bytes4 n ++ r) at e) ∙ number4-bytes n r h)
 
--- The same at a place whose bytes are those of n.
-module _ (s : List ℕ) (at k : ℕ) (bytes : List ℕ) (e : take k (drop at s) ≡ bytes) where
-  split : drop at s ≡ bytes ++ drop k (drop at s)
-  split = sym (take-append-drop k (drop at s)) ∙ ap (λ (l : List ℕ). l ++ drop k (drop at s)) e
-
-pub number2-at : (s : List ℕ) (at n : ℕ) → take 2 (drop at s) ≡ bytes2 n → n < 65_536 → number2Of s at ≡ n
-number2-at s at n e h = number2-drop s at ∙ (ap (λ (l : List ℕ). number2Of l 0) (split s at 2 (bytes2 n) e) ∙ number2-bytes n _ h)
-
-pub number4-at : (s : List ℕ) (at n : ℕ) → take 4 (drop at s) ≡ bytes4 n → n < 4_294_967_296 → number4Of s at ≡ n
-number4-at s at n e h = number4-drop s at ∙ (ap (λ (l : List ℕ). number4Of l 0) (split s at 4 (bytes4 n) e) ∙ number4-bytes n _ h)
-
--- Numbers with the same bytes are the same.
-pub bytes2-injective : (m n : ℕ) → m < 65_536 → n < 65_536 → bytes2 m ≡ bytes2 n → m ≡ n
-bytes2-injective m n h l e = sym (number2-bytes m [] h) ∙ (ap (λ (b : List ℕ). number2Of (b ++ []) 0) e ∙ number2-bytes n [] l)
-
-pub bytes4-injective : (m n : ℕ) → m < 4_294_967_296 → n < 4_294_967_296 → bytes4 m ≡ bytes4 n → m ≡ n
-bytes4-injective m n h l e = sym (number4-bytes m [] h) ∙ (ap (λ (b : List ℕ). number4Of (b ++ []) 0) e ∙ number4-bytes n [] l)
-
 -- A number read from a row of bytes fits its field, and its bytes are those that were read.
 pub number2-below : (s : List ℕ) (at : ℕ) → Bytes s → number2Of s at < 65_536
 unfolding number2Of
 number2-below s at b = omega (arith, b at, b (at + 1))
 
-pub number4-below : (s : List ℕ) (at : ℕ) → Bytes s → number4Of s at < 4_294_967_296
-unfolding number4Of
-number4-below s at b = omega (arith, number2-below s at b, number2-below s (at + 2) b)
-
-pub bytes2-joined : (x y : ℕ) → x < 256 → y < 256 → bytes2 (joined x y) ≡ x ∷ (y ∷ [])
+bytes2-joined : (x y : ℕ) → x < 256 → y < 256 → bytes2 (joined x y) ≡ x ∷ (y ∷ [])
 unfolding bytes2
 bytes2-joined x y h l =
     let low : joined x y % 256 ≡ x = omega arith in
@@ -121,15 +85,6 @@ bytes4-number s at b h =
     ap₂ (λ (m n : ℕ). bytes2 m ++ bytes2 n) lower upper
     ∙ (ap₂ _++_ (bytes2-number s at b (omega arith)) (bytes2-number s (at + 2) b (omega arith) ∙ ap (take 2) (sym (drop-drop 2 at s)))
     ∙ sym (take-add 2 2 (drop at s)))
-
--- What is written is read again.
-pub number2-put : (o : List ℕ) (at n : ℕ) → at ≤ length o → n < 65_536 → number2Of (put o at (bytes2 n)) at ≡ n
-number2-put o at n h l =
-    number2-at (put o at (bytes2 n)) at n (ap (λ (k : ℕ). take k (drop at (put o at (bytes2 n)))) (sym (bytes2-length n)) ∙ put-part o at (bytes2 n) h) l
-
-pub number4-put : (o : List ℕ) (at n : ℕ) → at ≤ length o → n < 4_294_967_296 → number4Of (put o at (bytes4 n)) at ≡ n
-number4-put o at n h l =
-    number4-at (put o at (bytes4 n)) at n (ap (λ (k : ℕ). take k (drop at (put o at (bytes4 n)))) (sym (bytes4-length n)) ∙ put-part o at (bytes4 n) h) l
 
 -- Two stores write a number's two bytes.
 pub put-bytes2 : (o : List ℕ) (at n : ℕ) {a b : ℕ} → at + 2 ≤ length o → a ≡ n % 256 → b ≡ n / 256 % 256 → set (set o at a) (at + 1) b ≡ put o at (bytes2 n)

@@ -6,8 +6,7 @@ use native.Mathlib.Numerals.{add-one}
 use native.Mathlib.Omega.{arith}
 use lib.ListN.{length, take, getD}
 use lib.Seq.{take-suc}
-use Rattle.fields.specs.Number.{joined, joinedHalves}
-use Rattle.fields.specs.Sum.{sumStep, runningSum, sumOf}
+use Rattle.fields.specs.Sum.{sumStep, runningSum}
 
 pub sum-none : (start : ℕ) → runningSum start [] ≡ start
 unfolding runningSum
@@ -30,8 +29,3 @@ pub sum-below : (start : ℕ) (s : List ℕ) → start < 4_294_967_296 → runni
 unfolding runningSum
 sum-below start [] h = h
 sum-below start (b ∷ s) h = sum-below (sumStep start b) s (omega arith)
-
--- K4's file: the sum over its bytes up to the sum field is the number that stands there, 3C F5 29 6E.
-pub k4-sum : sumOf (1 ∷ 0 ∷ 1 ∷ 0 ∷ 0 ∷ 0 ∷ 83 ∷ 0 ∷ 0 ∷ 9 ∷ 0 ∷ 0 ∷ 0 ∷ 3 ∷ 0 ∷ 0 ∷ 0 ∷ 0 ∷ 0 ∷ 0 ∷ 0 ∷ []) ≡ joinedHalves (joined 60 245) (joined 41 110)
-unfolding runningSum
-k4-sum = refl

@@ -7,26 +7,26 @@ ghost use Rattle.fields.specs.Number.{joined, joinedHalves, number2Of, n
 ghost use Rattle.fields.specs.Sum.{sumStep, runningSum, sumOf};
 
 // The number of two bytes.
-pub fn join(low: u8, high: u8) -> u16
+fn join(low: u8, high: u8) -> u16
     ensures { λ r. ⌜ r ≡ joined low high ⌝ }
 {
     low as u16 + high as u16 * 256
 }
 
 // The number of four bytes, by its halves.
-pub fn join_halves(low: u16, high: u16) -> u32
+fn join_halves(low: u16, high: u16) -> u32
     ensures { λ r. ⌜ r ≡ joinedHalves low high ⌝ }
 {
     low as u32 + high as u32 * 65_536
 }
 
-pub fn low(n: u16) -> u8
+fn low(n: u16) -> u8
     ensures { λ r. ⌜ r ≡ n % 256 ⌝ }
 {
     (n % 256) as u8
 }
 
-pub fn high(n: u16) -> u8
+fn high(n: u16) -> u8
     ensures { λ r. ⌜ r ≡ n / 256 % 256 ⌝ }
 {
     (n / 256) as u8
@@ -81,7 +81,7 @@ pub fn put4(o: &mut [u8], at: usize, n: u32)
 const SUM_START: u32 = 1;
 
 // What the sum becomes with one more byte.
-pub fn sum_step(sum: u32, byte: u8) -> u32
+fn sum_step(sum: u32, byte: u8) -> u32
     ensures { λ r. ⌜ r ≡ sumStep sum byte ⌝ }
 {
     let twice = std::num::wrapping_add_u32(sum, sum);
@@ -90,7 +90,7 @@ pub fn sum_step(sum: u32, byte: u8) -> u32
 }
 
 // What a sum that stands at start becomes over the bytes of s, from the first to the last.
-pub fn sum_over(start: u32, s: &[u8]) -> u32
+fn sum_over(start: u32, s: &[u8]) -> u32
     ensures { λ r. ⌜ r ≡ runningSum start (now (s .entry)) ⌝ }
 {
     let mut sum = start;

@@ -1,27 +1,29 @@
 -- The final numbers and the filled table: the equation without a depth, and that only one table fills.
 use Prim.Native.Nat.{ℕ, zero, suc, _+_, _-_, _*_, _≤_, _<_}
 use mathlib.Core.Bool.{Bool, true, false, cond}
-use mathlib.Core.Path.{_≡_, refl, sym, ap, ap₂, _∙_, subst}
+use mathlib.Core.Path.{_≡_, refl, sym, ap, _∙_, subst}
 use mathlib.Core.List.{List}
-use mathlib.Core.Logic.{_⊎_, inl, inr, ⊎-elim}
+use mathlib.Core.Logic.{_↔_}
 use native.Mathlib.Omega.{arith}
 use native.Mathlib.Decide.{ℕ-discrete}
 use lib.Dec.{eqb}
-use lib.ListN.{length, getD}
-use Rattle.laws.specs.Says.{Says}
+use lib.ListN.{length}
+use Rattle.laws.specs.Inner.{Says}
 use Rattle.laws.proofs.Says.{says-eq, says-no, says-false}
+use Rattle.laws.proofs.Largest.{largest-unique}
 use Rattle.cutting.specs.Limits.{sideMax}
-use Rattle.cutting.specs.Piece.{Fits, Inside}
+use Rattle.cutting.specs.Piece.{Lay, Fits, Inside}
+use Rattle.cutting.specs.Candidate.{Worth}
 use Rattle.cutting.specs.Candidate.{Smaller}
 use Rattle.cutting.proofs.Bound.{most, most-mono}
-use Rattle.cells.specs.Cells.{empty, cellOf, redrawn}
-use Rattle.cells.specs.Emptied.{fits}
+use Rattle.cells.specs.Cells.{empty, cellOf}
+use Rattle.cells.specs.Inner.{fits}
 use Rattle.cells.proofs.Emptied.{fits-says}
 use Rattle.cells.proofs.Redrawn.{redrawn-length, redrawn-cell, redrawn-beyond, is-redrawn}
-use Rattle.points.specs.Rows.{Rows}
-use Rattle.fill.specs.Worth.{worthOf}
-use Rattle.fill.specs.Filled.{finalWithin, final, filled, Fills, Bounded, Valued}
-use Rattle.fill.proofs.Worth.{worthOf-same, worthOf-most}
+use Rattle.points.specs.Inner.{Rows}
+use Rattle.fill.specs.Inner.{worthOf, finalWithin, final, filled, Valued}
+use Rattle.fill.specs.Filled.{Fills, Bounded}
+use Rattle.fill.proofs.Worth.{Hold, worthOf-same, worthOf-most, worthOf-worth}
 
 -- What a cell holds once it has been asked, from what it held and its worth.
 abbrev pub settled : ℕ → ℕ → ℕ
@@ -98,30 +100,43 @@ module _ (rows : Rows) (a b x y : ℕ) (t : List ℕ) (room : a * b ≤ length t
       redrawn-cell _ t room i
       ∙ ap (λ (s : Bool). cond s (final rows (cellOf a t) u w) (cellOf a t u w)) (says-no (fits-says u w x y) h)
 
-  -- The filled table fills ..
-  pub filled-fills : Fills rows a b x y t (filled rows a b x y t)
-  unfolding filled
-  filled-fills =
-      record {
-        worked = λ u w i e. filled-inside u w i ∙ (final-empty rows (cellOf a t) u w (i .widthLeast) (i .heightLeast) e ∙ sym (worthOf-same rows _ _ u w (i .widthLeast) (i .heightLeast) (λ m n s. filled-inside m n (omega arith))));
-        stayed = λ u w i h. filled-inside u w i ∙ final-kept rows (cellOf a t) u w (i .widthLeast) (i .heightLeast) h;
-        outside = filled-outside;
-        beyond = redrawn-beyond a b _ t;
-        long = redrawn-length a b _ t;
-      }
+  -- Where the rows hold the pieces and points of a lay, the filled table fills ..
+  module _ (lay : Lay) (hold : Hold rows lay a b) where
+    worth : (t' : List ℕ) (u w : ℕ) → Inside u w x y → Worth lay a b (cellOf a t') u w (worthOf rows (cellOf a t') u w)
+    worth t' u w i = worthOf-worth rows lay a b hold (cellOf a t') u w (omega arith)
 
-  -- .. and no other table does.
-  pub fills-only : (t' : List ℕ) → Fills rows a b x y t t' → t' ≡ filled rows a b x y t
-  unfolding filled
-  fills-only t' f = is-redrawn a b _ t t' (f .long) (λ u w i. at u w i (fits u w x y) (fits-says u w x y)) (f .beyond)
-    where
-      own : (u w : ℕ) → Inside u w x y → cellOf a t' u w ≡ settled (cellOf a t u w) (worthOf rows (cellOf a t') u w)
-      own u w i = by (eqb (cellOf a t u w) empty) (says-eq (cellOf a t u w) empty)
-        where
-          by : (s : Bool) → Says s (cellOf a t u w ≡ empty) → cellOf a t' u w ≡ cond s (worthOf rows (cellOf a t') u w) (cellOf a t u w)
-          by true s = f .worked u w i (s .means refl)
-          by false s = f .stayed u w i (says-false s refl)
+    pub filled-fills : Fills lay a b x y t (filled rows a b x y t)
+    unfolding filled
+    filled-fills =
+        record {
+          worked = λ u w i e. subst (Worth lay a b (cellOf a (filled rows a b x y t)) u w) (sym (own u w i e)) (worth (filled rows a b x y t) u w i);
+          stayed = λ u w i h. filled-inside u w i ∙ final-kept rows (cellOf a t) u w (i .widthLeast) (i .heightLeast) h;
+          outside = filled-outside;
+          beyond = redrawn-beyond a b _ t;
+          long = redrawn-length a b _ t;
+        }
+      where
+        own : (u w : ℕ) → Inside u w x y → cellOf a t u w ≡ empty → cellOf a (filled rows a b x y t) u w ≡ worthOf rows (cellOf a (filled rows a b x y t)) u w
+        own u w i e =
+            filled-inside u w i
+            ∙ (final-empty rows (cellOf a t) u w (i .widthLeast) (i .heightLeast) e
+            ∙ sym (worthOf-same rows _ _ u w (i .widthLeast) (i .heightLeast) (λ m n s. filled-inside m n (omega arith))))
 
-      at : (u w : ℕ) → Inside u w a b → (s : Bool) → Says s (Fits u w x y) → cellOf a t' u w ≡ cond s (final rows (cellOf a t) u w) (cellOf a t u w)
-      at u w i true s = let g = s .means refl in final-only rows (cellOf a t) (cellOf a t') x y own u w (omega arith)
-      at u w i false s = f .outside u w i (says-false s refl)
+    -- .. and no other table does.
+    pub fills-only : (t' : List ℕ) → Fills lay a b x y t t' → t' ≡ filled rows a b x y t
+    unfolding filled
+    fills-only t' f = is-redrawn a b _ t t' (f .long) (λ u w i. at u w i (fits u w x y) (fits-says u w x y)) (f .beyond)
+      where
+        own : (u w : ℕ) → Inside u w x y → cellOf a t' u w ≡ settled (cellOf a t u w) (worthOf rows (cellOf a t') u w)
+        own u w i = by (eqb (cellOf a t u w) empty) (says-eq (cellOf a t u w) empty)
+          where
+            by : (s : Bool) → Says s (cellOf a t u w ≡ empty) → cellOf a t' u w ≡ cond s (worthOf rows (cellOf a t') u w) (cellOf a t u w)
+            by true s = largest-unique (f .worked u w i (s .means refl)) (worth t' u w i)
+            by false s = f .stayed u w i (says-false s refl)
+
+        at : (u w : ℕ) → Inside u w a b → (s : Bool) → Says s (Fits u w x y) → cellOf a t' u w ≡ cond s (final rows (cellOf a t) u w) (cellOf a t u w)
+        at u w i true s = let g = s .means refl in final-only rows (cellOf a t) (cellOf a t') x y own u w (omega arith)
+        at u w i false s = f .outside u w i (says-false s refl)
+
+    pub fills-exactly : (t' : List ℕ) → (t' ≡ filled rows a b x y t) ↔ Fills lay a b x y t t'
+    fills-exactly t' = ((λ e. subst (Fills lay a b x y t) (sym e) filled-fills), fills-only t')

@@ -2,7 +2,6 @@
 use Prim.Native.Nat.{ℕ, zero, suc, _+_, _-_, _/_, _≤_, _<_, max}
 use mathlib.Core.Bool.{Bool, true, false, cond, _&&_}
 use mathlib.Core.List.{List}
-use mathlib.Core.Logic.{_⊎_, inl, inr, ⊎-elim, _↔_}
 use mathlib.Core.Path.{_≡_, refl, sym, ap, ap₂, _∙_, subst}
 use native.Mathlib.Omega.{arith}
 use native.Mathlib.Decide.{ℕ-discrete}
@@ -10,18 +9,16 @@ use native.Mathlib.Numerals.{add-one}
 use lib.Dec.{leb, ltb}
 use lib.ListN.{length, getD, set, replicate}
 use lib.Seq.{getD-set-same, getD-set-other}
-use Rattle.laws.specs.Says.{Says}
-use Rattle.laws.specs.Below.{bestBelow}
+use Rattle.laws.specs.Inner.{Says, bestBelow}
 use Rattle.laws.proofs.Says.{says-and, says-le, says-lt, says-iff, says-same, says-no, says-false}
 use Rattle.laws.proofs.Below.{bestBelow-more}
 use Rattle.cutting.specs.Piece.{Fits, Inside}
-use Rattle.cutting.specs.Dissection.{Line, rest}
-use Rattle.cells.specs.Cells.{cellOf, Holds}
-use Rattle.cells.specs.Emptied.{fits}
+use Rattle.cutting.specs.Dissection.{rest}
+use Rattle.cells.specs.Cells.{cellOf}
+use Rattle.cells.specs.Inner.{Holds, fits}
 use Rattle.cells.proofs.Emptied.{fits-says}
 use Rattle.cells.proofs.Places.{holds-lower}
-use Rattle.fill.specs.Worth.{fittingValue, lineAt, lineValue}
-use Rattle.fill.specs.Floor.{pieceIn, Raises, Columns, LinesUp, floorBy}
+use Rattle.fill.specs.Inner.{fittingValue, lineAt, lineValue, pieceIn, Raises, Columns, LinesUp, floorBy}
 use Rattle.fill.proofs.Steps.{linesUpTo, lines-none, lines-end, fitting-none, fitting-more}
 
 -- The columns from..u − 1 have been raised to g.

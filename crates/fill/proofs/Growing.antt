@@ -1,29 +1,32 @@
 -- How a box is filled cell by cell and row by row: none, one more, and a box filled in two goes.
-use Prim.Native.Nat.{ℕ, zero, suc, _+_, _-_, _*_, _≤_, _<_}
+use Prim.Native.Nat.{ℕ, _+_, _-_, _*_, _≤_, _<_}
 use mathlib.Core.Bool.{Bool, true, false, cond}
-use mathlib.Core.Path.{_≡_, refl, sym, ap, ap₂, _∙_, subst}
+use mathlib.Core.Path.{_≡_, refl, sym, ap, _∙_, subst}
 use mathlib.Core.List.{List}
 use mathlib.Core.Logic.{_⊎_, inl, inr, ⊎-elim, _≢_}
 use native.Mathlib.Omega.{arith}
 use native.Mathlib.Decide.{ℕ-discrete}
 use lib.Dec.{eqb}
 use lib.ListN.{length, getD, set, length-set}
-use Rattle.laws.specs.Says.{Says}
+use Rattle.laws.specs.Inner.{Says}
 use Rattle.laws.proofs.Says.{says-eq, says-no, says-false}
-use Rattle.laws.proofs.Order.{le-or-lt, last-or-below}
+use Rattle.laws.proofs.Order.{le-or-lt}
 use Rattle.cutting.specs.Piece.{Fits, Inside}
-use Rattle.cutting.specs.Candidate.{Smaller}
-use Rattle.cells.specs.Cells.{empty, place, cellOf, redrawn}
-use Rattle.cells.specs.Emptied.{fits}
+use Rattle.cells.specs.Cells.{empty, place, cellOf}
+use Rattle.cells.specs.Inner.{fits}
 use Rattle.cells.specs.Box.{isEmpty}
 use Rattle.cells.proofs.Emptied.{fits-says}
 use Rattle.cells.proofs.Box.{isEmpty-says}
-use Rattle.cells.proofs.Redrawn.{redrawn-length, redrawn-cell, redrawn-beyond, redrawn-same, redrawn-keeps, redrawn-again, is-redrawn, store-same, store-other, store-beyond}
-use Rattle.points.specs.Rows.{Rows}
-use Rattle.fill.specs.Worth.{worthOf}
-use Rattle.fill.specs.Filled.{final, filled, cellFilled, Full}
+use Rattle.cells.proofs.Redrawn.{redrawn-length, redrawn-beyond, redrawn-same, redrawn-keeps, redrawn-again, is-redrawn, store-same, store-other, store-beyond}
+use Rattle.points.specs.Inner.{Rows}
+use Rattle.fill.specs.Inner.{worthOf, final, filled}
+use Rattle.fill.specs.Filled.{Full}
 use Rattle.fill.proofs.Worth.{worthOf-same}
 use Rattle.fill.proofs.Filled.{settled, final-own, final-empty, final-kept, final-only, filled-inside, filled-outside}
+
+-- One cell worked out, as a step on the way.
+unfoldable pub cellFilled : Rows → ℕ → ℕ → ℕ → List ℕ → List ℕ
+cellFilled rows a u w t = cond (isEmpty a t u w) (set t (place a u w) (worthOf rows (cellOf a t) u w)) t
 
 -- A box without cells is filled as it is.
 pub filled-none : (rows : Rows) (a b x y : ℕ) (t : List ℕ) → (x ≡ 0) ⊎ (y ≡ 0) → t ≡ filled rows a b x y t

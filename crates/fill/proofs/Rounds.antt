@@ -1,29 +1,28 @@
 -- What the code needs and gives at each cell, row and box, over the definitions.
-use Prim.Native.Nat.{ℕ, zero, suc, _+_, _-_, _*_, _≤_, _<_, max}
-use mathlib.Core.Bool.{Bool, true, false, cond}
-use mathlib.Core.Path.{_≡_, refl, sym, ap, ap₂, _∙_, subst}
+use Prim.Native.Nat.{ℕ, _+_, _-_, _*_, _≤_, _<_, max}
+use mathlib.Core.Bool.{Bool, cond}
+use mathlib.Core.Path.{_≡_, sym, ap, ap₂, _∙_, subst}
 use mathlib.Core.List.{List}
-use mathlib.Core.Logic.{_⊎_, inl, inr, ⊎-elim, _≢_}
+use mathlib.Core.Logic.{_⊎_, ⊎-elim}
 use native.Mathlib.Omega.{arith}
-use lib.ListN.{length, getD, set}
+use lib.ListN.{set}
 use Rattle.laws.proofs.Order.{le-or-lt, last-or-below}
 use Rattle.laws.proofs.Says.{says-no}
-use Rattle.cutting.specs.Limits.{sideMax, piecesMax, valueMax}
-use Rattle.cutting.specs.Piece.{Fits, Inside}
-use Rattle.cutting.specs.Dissection.{Line}
+use Rattle.cutting.specs.Limits.{sideMax}
+use Rattle.cutting.specs.Piece.{Inside}
 use Rattle.cutting.specs.Candidate.{Smaller}
 use Rattle.cutting.proofs.Bound.{most, most-parts}
-use Rattle.cells.specs.Cells.{empty, place, cellOf, Holds}
+use Rattle.cells.specs.Cells.{empty, place, cellOf}
+use Rattle.cells.specs.Inner.{Holds}
 use Rattle.cells.specs.Box.{isEmpty, counted, countInRow, countInBox}
 use Rattle.cells.proofs.Places.{holds-lower, area-fits}
 use Rattle.cells.proofs.Box.{isEmpty-says, countInRow-more, countInBox-more, countInRow-same, countInRow-zero, countInRow-bound, countInBox-bound}
-use Rattle.points.specs.Rows.{Rows}
-use Rattle.fill.specs.Worth.{fittingValue, lineValue, worthOf, RowLines}
-use Rattle.fill.specs.Floor.{floorBy, cellRaised, LinesUp, FullBefore}
+use Rattle.points.specs.Inner.{Rows}
+use Rattle.fill.specs.Inner.{lineValue, worthOf, RowLines, floorBy, cellRaised, LinesUp, FullBefore, filled, Around, RowReady, BoxReady}
 use Rattle.fill.proofs.Worth.{lineValue-same}
-use Rattle.fill.specs.Filled.{final, filled, cellFilled, Full, Bounded, Around, RowReady, BoxReady}
+use Rattle.fill.specs.Filled.{Full}
 use Rattle.fill.proofs.Filled.{most-fits, final-most, filled-inside, filled-outside}
-use Rattle.fill.proofs.Growing.{filled-again, filled-length, filled-full, filled-cell, early, old-cell}
+use Rattle.fill.proofs.Growing.{cellFilled, filled-again, filled-length, filled-full, filled-cell, early, old-cell}
 
 -- The lines across up to a cell.
 pub around-lines : (a : ℕ) (t : List ℕ) (u w : ℕ) → Around a t u w → RowLines a t w u

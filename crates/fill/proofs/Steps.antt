@@ -1,29 +1,16 @@
 -- One law a step for the loops that work out a cell: none, one more, end.
-use Prim.Native.Nat.{ℕ, suc, _+_, _-_, _*_, _/_, _≤_, _<_, max}
+use Prim.Native.Nat.{ℕ, suc, _+_, _-_, _/_, _≤_, _<_, max}
 use mathlib.Core.Bool.{Bool, true, false, cond}
 use mathlib.Core.List.{List}
 use mathlib.Core.Path.{_≡_, refl, sym, ap, ap₂, _∙_}
 use native.Mathlib.Omega.{arith}
 use native.Mathlib.Numerals.{add-one}
-use native.Mathlib.Nat.{mul-le-mul-left}
-use Rattle.laws.specs.Below.{bestBelow}
-use Rattle.laws.proofs.Says.{says-no, true≢false}
+use Rattle.laws.specs.Inner.{bestBelow}
 use Rattle.laws.proofs.Below.{bestBelow-none, bestBelow-more}
 use Rattle.cutting.specs.Dissection.{rest}
-use Rattle.cutting.specs.Piece.{Inside}
-use Rattle.cells.specs.Cells.{Holds, cellOf}
-use Rattle.cells.specs.Emptied.{fits}
-use Rattle.fill.specs.Worth.{fittingValue, lineAt, lineValue, RowLines}
-use Rattle.cells.proofs.Emptied.{fits-says}
-
-pub fits-value : (p q v u w : ℕ) → p ≤ u → q ≤ w → v ≡ cond (fits p q u w) v 0
-fits-value p q v u w h k = ap (λ (b : Bool). cond b v 0) (sym (fits-says p q u w .found (record { wide = h; high = k })))
-
-pub too-wide : (p q v u w : ℕ) → u < p → 0 ≡ cond (fits p q u w) v 0
-too-wide p q v u w h = ap (λ (b : Bool). cond b v 0) (sym (says-no (fits-says p q u w) (λ f. omega (arith, f .wide))))
-
-pub too-high : (p q v u w : ℕ) → w < q → 0 ≡ cond (fits p q u w) v 0
-too-high p q v u w h = ap (λ (b : Bool). cond b v 0) (sym (says-no (fits-says p q u w) (λ f. omega (arith, f .high))))
+use Rattle.cells.specs.Cells.{cellOf}
+use Rattle.cells.specs.Inner.{fits}
+use Rattle.fill.specs.Inner.{fittingValue, lineAt, lineValue, RowLines}
 
 module _ (width height value : ℕ → ℕ) where
   pub fitting-none : (u w : ℕ) → 0 ≡ fittingValue width height value 0 u w
@@ -58,11 +45,6 @@ module _ (marked : ℕ → Bool) (part : ℕ → ℕ) (x : ℕ) where
   pub line-unmarked : {c : ℕ} {b : Bool} → b ≡ marked c → b ≡ false → 0 ≡ lineAt marked part x c
   unfolding lineAt
   line-unmarked {c} e t = ap (λ (b : Bool). cond b (part c + part (rest x c)) 0) (sym t ∙ e)
-
--- The cells of a line across row w.
-pub row-cell : (a : ℕ) (t : List ℕ) (w x c : ℕ) → RowLines a t w x → 1 ≤ c → c < x → Holds a w t × Inside c w a w
-row-cell a t w x c s p h =
-    (s .holds, record { widthLeast = p; widthMost = omega (arith, s .wide); heightLeast = s .holds .heightLeast; heightMost = omega arith })
 
 pub line-fits : (a : ℕ) (t : List ℕ) (w x c : ℕ) {m n : ℕ} → RowLines a t w x → 1 ≤ c → c < x → m ≡ cellOf a t c w → n ≡ cellOf a t (rest x c) w → m + n < 4_294_967_296
 line-fits a t w x c s p h e f =

@@ -1,24 +1,23 @@
 -- The worth of a cell: it reads smaller cells alone, it is the largest candidate, and it stays within the cell's bound.
-use Prim.Native.Nat.{ℕ, zero, suc, _+_, _-_, _*_, _/_, _≤_, _<_, max}
+use Prim.Native.Nat.{ℕ, zero, suc, _+_, _-_, _/_, _≤_, _<_, max}
 use mathlib.Core.Bool.{Bool, true, false, cond}
-use mathlib.Core.Path.{_≡_, refl, sym, ap, ap₂, _∙_, subst}
-use mathlib.Core.Logic.{_⊎_, inl, inr, ⊎-elim, _↔_}
+use mathlib.Core.Path.{_≡_, refl, sym, ap, ap₂, subst}
+use mathlib.Core.Logic.{_⊎_, ⊎-elim}
 use native.Mathlib.Omega.{arith}
-use Rattle.laws.specs.Largest.{Largest}
-use Rattle.laws.specs.Says.{Says}
-use Rattle.laws.specs.Below.{bestBelow}
+use Rattle.laws.specs.Inner.{Says}
 use Rattle.laws.proofs.Order.{larger}
-use Rattle.laws.proofs.Below.{bestBelow-bound, bestBelow-attained, bestBelow-within, bestBelow-same}
-use Rattle.cutting.specs.Limits.{sideMax, valueMax}
+use Rattle.laws.proofs.Below.{bestBelow-bound, bestBelow-attained, bestBelow-same}
+use Rattle.cutting.specs.Limits.{valueMax}
 use Rattle.cutting.specs.Piece.{Lay, Turned, Fits, Inside}
 use Rattle.cutting.specs.Dissection.{rest, Line}
 use Rattle.cutting.specs.Points.{P}
-use Rattle.cutting.specs.Candidate.{Candidate, Worth, Smaller}
+use Rattle.cutting.specs.Candidate.{Candidate, Worth}
+use Rattle.cutting.specs.Candidate.{Smaller}
 use Rattle.cutting.proofs.Bound.{most, most-parts, most-mono}
-use Rattle.cells.specs.Emptied.{fits}
+use Rattle.cells.specs.Inner.{fits}
 use Rattle.cells.proofs.Emptied.{fits-says}
-use Rattle.points.specs.Rows.{Rows}
-use Rattle.fill.specs.Worth.{fittingValue, lineAt, lineValue, worthOf}
+use Rattle.points.specs.Inner.{Rows}
+use Rattle.fill.specs.Inner.{fittingValue, lineAt, lineValue, worthOf}
 
 -- The value of a line's two parts depends on the parts alone.
 pub lineValue-same : (marked : ℕ → Bool) (part other : ℕ → ℕ) (x : ℕ) → ((c : ℕ) → 1 ≤ c → c < x → part c ≡ other c) → lineValue marked part x ≡ lineValue marked other x

@@ -1,4 +1,3 @@
--- The worth of a cell by the rule, and the filled table.
-pub mod Worth
-pub mod Floor
+-- The filled table in the document's words.
 pub mod Filled
+pub mod Inner

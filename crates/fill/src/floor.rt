@@ -1,13 +1,12 @@
 // The floor of a row: what each of its cells is worth without a line across. It is found for a whole row at once, piece by
 // piece and line by line, so that the inner loops go along the row.
 ghost use mathlib.Core.Path.{_≡_};
-ghost use mathlib.Core.Bool.{Bool, false};
-ghost use Prim.Native.Nat.{ℕ, _+_, _-_, _/_, _≤_, _<_, max};
+ghost use mathlib.Core.Bool.{false};
+ghost use Prim.Native.Nat.{_+_, _-_, _/_, _≤_, _<_, max};
 ghost use lib.ListN.{length, getD};
 ghost use Rattle.cutting.specs.Limits.{sideMax, piecesMax};
 ghost use Rattle.cells.specs.Cells.{cellOf};
-ghost use Rattle.fill.specs.Worth.{fittingValue, lineValue};
-ghost use Rattle.fill.specs.Floor.{Raises, Columns, LinesUp, pieceIn, floorBy};
+ghost use Rattle.fill.specs.Inner.{fittingValue, lineValue, Raises, Columns, LinesUp, pieceIn, floorBy};
 use crate::value::larger;
 use cells::cell;
 use points::MARK_COUNT;

@@ -1,18 +1,17 @@
 // The filling of a box: each empty cell gets its worth by the rule, from small to large. No promise speaks of that order.
 // floor.rt: what a row's cells are worth without a line across; value.rt: the lines across.
 ghost use mathlib.Core.Path.{_≡_};
-ghost use mathlib.Core.Bool.{Bool, false};
-ghost use Prim.Native.Nat.{ℕ, _≤_};
+ghost use mathlib.Core.Bool.{false};
+ghost use Prim.Native.Nat.{_≤_};
 ghost use lib.ListN.{getD};
 ghost use Rattle.cutting.specs.Limits.{piecesMax};
-ghost use Rattle.cells.specs.Cells.{Holds};
+ghost use Rattle.cells.specs.Inner.{Holds};
 ghost use Rattle.cells.specs.Box.{isEmpty, counted, countInRow, countInBox};
-ghost use Rattle.points.specs.Rows.{rowsOf};
-ghost use Rattle.fill.specs.Floor.{cellRaised, FullBefore};
-ghost use Rattle.fill.specs.Filled.{filled, Around, RowReady, BoxReady};
+ghost use Rattle.points.specs.Inner.{rowsOf};
+ghost use Rattle.fill.specs.Inner.{cellRaised, FullBefore, filled, Around, RowReady, BoxReady};
 
-pub mod floor;
-pub mod value;
+mod floor;
+mod value;
 
 use floor::floor_of;
 use points::Marks;

@@ -1,11 +1,10 @@
 // The lines across a row: the most that a marked line gives.
 ghost use mathlib.Core.Path.{_≡_};
-ghost use mathlib.Core.Bool.{Bool, false};
-ghost use Prim.Native.Nat.{ℕ, _+_, _≤_, _<_, max};
+ghost use mathlib.Core.Bool.{false};
+ghost use Prim.Native.Nat.{_+_, _≤_, _<_, max};
 ghost use lib.ListN.{getD};
-ghost use Rattle.cutting.specs.Limits.{sideMax};
 ghost use Rattle.cells.specs.Cells.{cellOf};
-ghost use Rattle.fill.specs.Worth.{lineAt, lineValue, RowLines};
+ghost use Rattle.fill.specs.Inner.{lineAt, lineValue, RowLines};
 use points::Marks;
 
 pub fn larger(x: u32, y: u32) -> u32

@@ -8,10 +8,9 @@ use native.Mathlib.Omega.{arith}
 use lib.ListN.{length, getD, take, drop, length-append, length-drop, take-append-drop, List·getD-eq-default}
 use native.Mathlib.Nat.{add-zero}
 use lib.Seq.{drop-drop, drop-nil, drop-append-add, take-add, drop-cons, take-all, drop-at}
-use Rattle.laws.specs.Says.{Says}
+use Rattle.laws.specs.Inner.{Says, filled}
 use Rattle.laws.specs.ByIndex.{byIndex}
 use Rattle.laws.specs.Put.{put}
-use Rattle.laws.specs.Filled.{filled}
 use Rattle.laws.proofs.Order.{le-or-lt}
 use Rattle.laws.proofs.Says.{says-le, says-eq, says-and, says-iff}
 use Rattle.laws.proofs.Tests.{not-true, not-false}
@@ -20,13 +19,15 @@ use Rattle.laws.proofs.Put.{put-none, put-next}
 use Rattle.fields.specs.Number.{number2Of, bytes2, Bytes}
 use Rattle.fields.proofs.Number.{bytes2-length, number2-drop, number2-bytes, number2-behind, bytes2-number}
 use Rattle.cutting.specs.Limits.{piecesMax}
-use Rattle.cutting.specs.Sheets.{K1}
 use Rattle.cutting.specs.Piece.{Piece, noPiece}
 use Rattle.job.specs.declared.Piece.{Piece as Record}
 use Rattle.job.specs.declared.Job.{Job}
 use Rattle.job.specs.declared.Blocked.{Blocked}
-use Rattle.job.specs.Job.{pieceOf, recordOf, noRecord, piecesOf, jobOf, zeroJob, Tidy}
-use Rattle.job.specs.Block.{headBytes, pieceBytes, blockLength, bytesOfPiece, bytesOfPieces, bytesOfHead, block, blockOf, countIn, pieceFrom, pieceIn, jobIn, BlockShape, blockShape, fromBlock, InFields}
+use Rattle.job.specs.Job.{pieceOf, recordOf, noRecord, piecesOf, jobOf, zeroJob}
+use Rattle.job.specs.Inner.{blockShape, fromBlock}
+use Rattle.job.specs.Block.{InFields}
+use Rattle.job.specs.Job.{Tidy}
+use Rattle.job.specs.Block.{headBytes, pieceBytes, blockLength, bytesOfPiece, bytesOfPieces, bytesOfHead, block, blockOf, countIn, pieceFrom, pieceIn, jobIn, BlockShape}
 use Rattle.job.specs.Range.{JobInRange}
 use Rattle.job.proofs.Range.{in-range-each}
 use Rattle.job.proofs.Pieces.{pieces-length, is-jobOf, pieces-jobOf}
@@ -236,10 +237,6 @@ module _ (width height : ℕ) (pieces : List Piece) (fits : InFields width heigh
 pub block-injective : (a b : ℕ) (s : List Piece) (c d : ℕ) (t : List Piece) → InFields a b s → InFields c d t → block a b s ≡ block c d t → jobOf a b s ≡ jobOf c d t
 block-injective a b s c d t f g e = sym (block-read a b s f) ∙ (ap jobIn e ∙ block-read c d t g)
 
-pub tidy-injective : (job other : Job) → Tidy job → Tidy other → InFields (job .width) (job .height) (piecesOf job) → InFields (other .width) (other .height) (piecesOf other) → blockOf job ≡ blockOf other → job ≡ other
-tidy-injective job other t u f g e =
-    t .zeros ∙ (block-injective (job .width) (job .height) (piecesOf job) (other .width) (other .height) (piecesOf other) f g e ∙ sym (u .zeros))
-
 -- What is read as a block is the block of what was read.
 pub piece-written : (s : List ℕ) (at : ℕ) → Bytes s → at + pieceBytes ≤ length s → bytesOfPiece (pieceFrom s at) ≡ take pieceBytes (drop at s)
 unfolding pieceFrom bytesOfPiece
@@ -293,11 +290,8 @@ range-fits job range =
         let i = in-range-each (piecesOf job) (range .pieces) k h in
         (omega (arith, i .widthMost), omega (arith, i .heightMost), omega (arith, i .valueMost))
 
--- K4's file begins with its block, and K1's block as document 01 describes it.
-pub k4-block : block 1 1 [] ≡ 1 ∷ 0 ∷ 1 ∷ 0 ∷ 0 ∷ 0 ∷ []
-unfolding block bytesOfHead bytesOfPieces bytes2
-k4-block = refl
-
-pub k1-block : block 3 3 (K1 .pieces) ≡ 3 ∷ 0 ∷ 3 ∷ 0 ∷ 2 ∷ 0 ∷ 1 ∷ 0 ∷ 2 ∷ 0 ∷ 2 ∷ 0 ∷ 2 ∷ 0 ∷ 3 ∷ 0 ∷ 6 ∷ 0 ∷ []
-unfolding block bytesOfHead bytesOfPieces bytesOfPiece bytes2
-k1-block = refl
+-- A job in range whose records past n are zeros is the job of its own block.
+pub own-block : (job : Job) → JobInRange job → Tidy job → BlockShape (blockOf job) × (jobIn (blockOf job) ≡ job)
+own-block job range tidy =
+    let fits = range-fits job range in
+    (block-shape (job .width) (job .height) (piecesOf job) fits, block-read (job .width) (job .height) (piecesOf job) fits ∙ sym (tidy .zeros))

@@ -8,7 +8,7 @@ use native.Mathlib.Omega.{arith}
 use lib.ListN.{length, getD, set, take, drop, length-append, length-drop, length-set, List·getD-append}
 use lib.Seq.{getD-append-seam, getD-append-add, getD-take, getD-drop, getD-set-same, getD-set-other, length-take-le}
 use borrow.Author.Tests.{lt-ltb, le-ltb}
-use Rattle.laws.specs.Filled.{filled}
+use Rattle.laws.specs.Inner.{filled}
 use Rattle.laws.proofs.Order.{le-or-lt, last-or-below, eq-or-not}
 use Rattle.laws.proofs.Filled.{filled-more, filled-same, filled-set, filled-end}
 use Rattle.cutting.specs.Piece.{Piece, noPiece}
@@ -17,7 +17,8 @@ use Rattle.cutting.specs.Change.{added, corrected, removed}
 use Rattle.job.specs.declared.Piece.{Piece as Record}
 use Rattle.job.specs.declared.Job.{Job}
 use Rattle.job.specs.Job.{pieceOf, recordOf, noRecord, piecesOf, jobOf}
-use Rattle.job.specs.Change.{withAdded, withCorrected, withRemoved, movedFrom}
+use Rattle.job.specs.Change.{withAdded, withCorrected, withRemoved}
+use Rattle.job.specs.Inner.{movedFrom}
 use Rattle.job.specs.Range.{JobInRange}
 use Rattle.job.proofs.Range.{PieceIn, RecordIn, in-range-each, each-in-range, jobOf-in-range}
 use Rattle.job.proofs.Pieces.{pieces-length, record-at, pieces-jobOf, is-jobOf}

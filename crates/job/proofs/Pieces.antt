@@ -1,11 +1,13 @@
 -- The laws of piecesOf and jobOf: the pieces of a job that has given pieces are those, and what makes a job that one.
 use Prim.Native.Nat.{ℕ, _≤_, _<_}
 use mathlib.Core.Path.{_≡_, refl, sym, ap, _∙_}
+use mathlib.Core.Logic.{⊎-elim}
 use mathlib.Core.List.{List}
 use native.Mathlib.Omega.{arith}
 use lib.ListN.{length, getD, List·getD-eq-default}
 use Rattle.laws.specs.ByIndex.{byIndex}
-use Rattle.laws.specs.Filled.{filled}
+use Rattle.laws.specs.Inner.{filled}
+use Rattle.laws.proofs.Order.{le-or-lt}
 use Rattle.laws.proofs.ByIndex.{byIndex-length, byIndex-at, is-byIndex}
 use Rattle.laws.proofs.Filled.{filled-whole}
 use Rattle.cutting.specs.Piece.{Piece, noPiece}
@@ -36,6 +38,14 @@ pieces-jobOf width height pieces h =
 pub jobOf-tidy : (width height : ℕ) (pieces : List Piece) → length pieces ≤ piecesMax → Tidy (jobOf width height pieces)
 unfolding jobOf
 jobOf-tidy width height pieces h = record { zeros = ap (jobOf width height) (sym (pieces-jobOf width height pieces h)) }
+
+-- Its records past n are zeros.
+pub jobOf-zeros : (width height : ℕ) (pieces : List Piece) (k : ℕ) → length pieces ≤ k → getD (jobOf width height pieces .pieces) k noRecord ≡ noRecord
+unfolding jobOf
+jobOf-zeros width height pieces k h =
+    ⊎-elim (λ g. List·getD-eq-default (byIndex (λ i. recordOf (getD pieces i noPiece)) piecesMax) noRecord (omega (arith, byIndex-length (λ i. recordOf (getD pieces i noPiece)) piecesMax)))
+    (λ g. byIndex-at (λ i. recordOf (getD pieces i noPiece)) piecesMax k noRecord g ∙ ap recordOf (List·getD-eq-default pieces noPiece h))
+    (le-or-lt piecesMax k)
 
 -- A job with these sides and this count, whose first records are the pieces' and whose others are zeros, is that job.
 pub is-jobOf : (width height n : ℕ) (pieces : List Piece) (records : List Record) (f : ℕ → Record) → n ≡ length pieces → records ≡ filled f noRecord n piecesMax → ((k : ℕ) → k < n → f k ≡ recordOf (getD pieces k noPiece)) → _≡_ {A = Job} (record { width = width; height = height; count = n; pieces = records }) (jobOf width height pieces)

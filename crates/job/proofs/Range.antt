@@ -5,7 +5,7 @@ use mathlib.Core.List.{List, []}
 use native.Mathlib.Omega.{arith}
 use mathlib.Core.Bool.{false}
 use lib.ListN.{getD, length}
-use Rattle.laws.specs.Says.{Says}
+use Rattle.laws.specs.Inner.{Says}
 use Rattle.laws.proofs.Says.{says-le, says-and, says-iff, says-no}
 use Rattle.laws.proofs.Below.{allBelow-says}
 use Rattle.cutting.specs.Limits.{sideMax, piecesMax, sizeMax, valueMax}
@@ -14,7 +14,8 @@ use Rattle.cutting.specs.Piece.{Piece, noPiece, Lays, PieceInRange, InRange}
 use Rattle.job.specs.declared.Piece.{Piece as Record}
 use Rattle.job.specs.declared.Job.{Job}
 use Rattle.job.specs.Job.{pieceOf, noRecord, piecesOf, jobOf, zeroJob}
-use Rattle.job.specs.Range.{JobInRange, within, pieceInRange, piecesInRange, jobInRange}
+use Rattle.job.specs.Range.{JobInRange}
+use Rattle.job.specs.Inner.{within, pieceInRange, piecesInRange, jobInRange}
 use Rattle.job.proofs.Pieces.{pieces-length, pieces-at, pieces-jobOf}
 
 pub within-says : (n most : ℕ) → Says (within n most) ((1 ≤ n) × (n ≤ most))

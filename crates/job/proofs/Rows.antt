@@ -3,9 +3,9 @@ use Prim.Native.Nat.{ℕ, _<_}
 use mathlib.Core.Path.{_≡_, refl, sym, ap, _∙_}
 use mathlib.Core.List.{List}
 use native.Mathlib.Omega.{arith}
-use lib.ListN.{length, getD, List·getD-eq-default}
-use Rattle.laws.specs.Filled.{filled}
-use Rattle.laws.proofs.ByIndex.{byIndex-length, byIndex-at}
+use lib.ListN.{getD, List·getD-eq-default}
+use Rattle.laws.specs.Inner.{filled}
+use Rattle.laws.proofs.ByIndex.{byIndex-at}
 use Rattle.laws.proofs.Filled.{filled-whole}
 use Rattle.cutting.specs.Piece.{Piece, noPiece}
 use Rattle.cutting.specs.Limits.{piecesMax}
@@ -13,12 +13,8 @@ use Rattle.job.specs.declared.Job.{Job}
 use Rattle.job.specs.declared.Measure.{Measure}
 use Rattle.job.specs.declared.Measure.the-variants.{Width, Height, Value}
 use Rattle.job.specs.Job.{pieceOf, noRecord, piecesOf}
-use Rattle.job.specs.Row.{measured, rowOf}
+use Rattle.job.specs.Inner.{measured, rowOf}
 use Rattle.job.proofs.Pieces.{pieces-length, pieces-at}
-
-pub row-length : (number : Piece → ℕ) (pieces : List Piece) → length (rowOf number pieces) ≡ piecesMax
-unfolding rowOf
-row-length number pieces = byIndex-length (λ k. number (getD pieces k noPiece)) piecesMax
 
 pub row-at : (number : Piece → ℕ) (pieces : List Piece) (k : ℕ) → k < piecesMax → getD (rowOf number pieces) k 0 ≡ number (getD pieces k noPiece)
 unfolding rowOf

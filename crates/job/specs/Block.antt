@@ -1,17 +1,14 @@
 -- "the job block: width, height, n (two bytes each), then p, q, v (two bytes each) for every piece"
 use Prim.Native.Nat.{ℕ, _+_, _*_, _≤_, _<_}
-use mathlib.Core.Bool.{Bool, true, false, cond, _&&_}
 use mathlib.Core.Path.{_≡_}
 use mathlib.Core.List.{List, [], _∷_, _++_}
-use lib.Dec.{leb, eqb}
 use lib.ListN.{length, getD}
 use Rattle.laws.specs.ByIndex.{byIndex}
 use Rattle.fields.specs.Number.{bytes2, number2Of}
 use Rattle.cutting.specs.Limits.{piecesMax}
 use Rattle.cutting.specs.Piece.{Piece, noPiece}
 use Rattle.job.specs.declared.Job.{Job}
-use Rattle.job.specs.declared.Blocked.{Blocked}
-use Rattle.job.specs.Job.{piecesOf, jobOf, zeroJob}
+use Rattle.job.specs.Job.{piecesOf, jobOf}
 
 -- "width, height, n (two bytes each)"
 abbrev pub headBytes : ℕ
@@ -62,13 +59,6 @@ pub record BlockShape (s : List ℕ) : Type 0 where
   pub head : headBytes ≤ length s
   pub most : countIn s ≤ piecesMax
   pub whole : length s ≡ blockLength (countIn s)
-
-unfoldable pub blockShape : List ℕ → Bool
-blockShape s = leb headBytes (length s) && (leb (countIn s) piecesMax && eqb (length s) (blockLength (countIn s)))
-
--- Any other block "counts as refusal 1": a job of zeros.
-unfoldable pub fromBlock : List ℕ → Blocked
-fromBlock s = cond (blockShape s) (record { ok = true; job = jobIn s }) (record { ok = false; job = zeroJob })
 
 -- Each number of the job fits its two bytes, and n is at most 64.
 pub record InFields (a b : ℕ) (pieces : List Piece) : Type 0 where

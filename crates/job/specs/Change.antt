@@ -1,7 +1,5 @@
 -- "Add, correct piece k, remove piece k": the job after the change.
-use Prim.Native.Nat.{ℕ, _+_}
-use mathlib.Core.Bool.{cond}
-use lib.Dec.{ltb}
+use Prim.Native.Nat.{ℕ}
 use Rattle.cutting.specs.Change.{added, corrected, removed}
 use Rattle.job.specs.declared.Piece.{Piece as Record}
 use Rattle.job.specs.declared.Job.{Job}
@@ -15,7 +13,3 @@ withCorrected job k new = jobOf (job .width) (job .height) (corrected (piecesOf 
 
 unfoldable pub withRemoved : Job → ℕ → Job
 withRemoved job k = jobOf (job .width) (job .height) (removed (piecesOf job) k)
-
--- Where what stands at index k came from, once the record at index gap is left out. "later pieces move down by one number"
-unfoldable pub movedFrom : ℕ → ℕ → ℕ
-movedFrom gap k = cond (ltb k gap) k (k + 1)

@@ -28,10 +28,10 @@ piecesOf job = byIndex (λ k. pieceOf (getD (job .pieces) k noRecord)) (job .cou
 unfoldable pub jobOf : ℕ → ℕ → List Piece → Job
 jobOf width height pieces = record { width = width; height = height; count = length pieces; pieces = byIndex (λ k. recordOf (getD pieces k noPiece)) piecesMax }
 
--- The records past n are zeros.
-pub record Tidy (job : Job) : Type 0 where
-  pub zeros : job ≡ jobOf (job .width) (job .height) (piecesOf job)
-
 -- A "job of zeros, which every later call refuses".
 unfoldable pub zeroJob : Job
 zeroJob = jobOf 0 0 []
+
+-- The records past n are zeros.
+pub record Tidy (job : Job) : Type 0 where
+  pub zeros : job ≡ jobOf (job .width) (job .height) (piecesOf job)

@@ -2,5 +2,5 @@
 pub mod Job
 pub mod Range
 pub mod Change
-pub mod Row
 pub mod Block
+pub mod Inner

@@ -2,10 +2,11 @@
 ghost use mathlib.Core.Path.{_≡_};
 ghost use Prim.Native.Nat.{ℕ, _≤_, _<_};
 ghost use lib.ListN.{getD};
-ghost use Rattle.laws.specs.Filled.{filled};
+ghost use Rattle.laws.specs.Inner.{filled};
 ghost use Rattle.cutting.specs.Limits.{piecesMax};
 ghost use Rattle.job.specs.Job.{noRecord};
-ghost use Rattle.job.specs.Change.{withAdded, withCorrected, withRemoved, movedFrom};
+ghost use Rattle.job.specs.Change.{withAdded, withCorrected, withRemoved};
+ghost use Rattle.job.specs.Inner.{movedFrom};
 use crate::Job;
 use crate::Piece;
 

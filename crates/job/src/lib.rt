@@ -5,7 +5,7 @@ ghost use mathlib.Core.List.{[]};
 ghost use Prim.Native.Nat.{_≤_};
 ghost use Rattle.cutting.specs.Limits.{piecesMax};
 ghost use Rattle.job.specs.Job.{noRecord, jobOf, zeroJob};
-ghost use Rattle.job.specs.Range.{within, pieceInRange, piecesInRange, jobInRange};
+ghost use Rattle.job.specs.Inner.{within, pieceInRange, piecesInRange, jobInRange};
 
 pub mod block;
 mod change;
@@ -55,7 +55,7 @@ impl Piece {
     pub const VALUE_MAX: u16 = 65_535;
 
     // The record where there is no piece.
-    pub fn zeros() -> Piece
+    fn zeros() -> Piece
         ensures { λ r. ⌜ r ≡ noRecord ⌝ }
     {
         Piece {

@@ -3,13 +3,13 @@ ghost use mathlib.Core.Path.{_≡_};
 ghost use Prim.Native.Nat.{_≤_};
 ghost use Rattle.cutting.specs.Limits.{piecesMax};
 ghost use Rattle.job.specs.Job.{pieceOf, piecesOf};
-ghost use Rattle.job.specs.Row.{measured, rowOf};
+ghost use Rattle.job.specs.Inner.{measured, rowOf};
 use crate::Job;
 use crate::Measure;
 use crate::Piece;
 
 impl Measure {
-    pub fn of(self, piece: Piece) -> u16
+    fn of(self, piece: Piece) -> u16
         ensures { λ r. ⌜ r ≡ measured self (pieceOf piece) ⌝ }
     {
         match self {

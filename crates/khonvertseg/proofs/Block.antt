@@ -2,26 +2,36 @@
 use Prim.Native.Nat.{ℕ}
 use mathlib.Core.Bool.{Bool, true, false, cond, not}
 use mathlib.Core.List.{List}
-use mathlib.Core.Path.{_≡_, refl, sym, ap, _∙_}
+use mathlib.Core.Path.{_≡_, refl, sym, ap, _∙_, subst}
+use Rattle.laws.proofs.Says.{says-false}
 use Rattle.laws.proofs.Tests.{not-true, not-false}
 use Rattle.job.specs.declared.Job.{Job}
 use Rattle.job.specs.declared.Blocked.{Blocked}
-use Rattle.job.specs.Block.{fromBlock}
-use Rattle.khonvertseg.specs.Block.{ofBlock}
+use Rattle.job.specs.Job.{zeroJob}
+use Rattle.job.specs.Block.{jobIn}
+use Rattle.job.specs.Inner.{blockShape, fromBlock}
+use Rattle.job.proofs.Blocks.{shape-says}
+use Rattle.khonvertseg.specs.Calls.{WithBlock}
 
-abbrev choice : {A : Type 0} → (Job → A) → A → Blocked → A
-choice given left b = cond (b .ok) (given (b .job)) left
+module _ (block : List ℕ) where
+  abbrev by : Bool → Blocked
+  by b = cond b (record { ok = true; job = jobIn block }) (record { ok = false; job = zeroJob })
 
-choice-no : {A : Type 0} (given : Job → A) (left : A) (blocked : Blocked) → blocked .ok ≡ false → left ≡ choice given left blocked
-choice-no given left blocked h = sym (ap (λ (b : Bool). cond b (given (blocked .job)) left) h)
+  ok-by : (b : Bool) → by b .ok ≡ b
+  ok-by true = refl
+  ok-by false = refl
 
-choice-yes : {A : Type 0} (given : Job → A) (left : A) (blocked : Blocked) → blocked .ok ≡ true → given (blocked .job) ≡ choice given left blocked
-choice-yes given left blocked h = sym (ap (λ (b : Bool). cond b (given (blocked .job)) left) h)
+  shaped : {blocked : Blocked} → blocked ≡ fromBlock block → blocked .ok ≡ blockShape block
+  unfolding fromBlock
+  shaped e = ap (λ (b : Blocked). b .ok) e ∙ ok-by (blockShape block)
 
-pub block-refused : {A : Type 0} (block : List ℕ) (given : Job → A) (left : A) {blocked : Blocked} → blocked ≡ fromBlock block → not (blocked .ok) ≡ true → left ≡ ofBlock block given left
-unfolding ofBlock
-block-refused block given left {blocked} e h = choice-no given left blocked (not-true h) ∙ ap (choice given left) e
+  module _ {A : Type 0} {call : Job → A → List ℕ → Type 0} {no : A} {lent : List ℕ} {blocked : Blocked} (e : blocked ≡ fromBlock block) where
+    pub block-refused : not (blocked .ok) ≡ true → WithBlock block call no lent no lent
+    block-refused h = WithBlock.shapeless (says-false (shape-says block) (sym (shaped e) ∙ not-true h))
 
-pub block-given : {A : Type 0} (block : List ℕ) (given : Job → A) (left : A) {blocked : Blocked} {r : A} → blocked ≡ fromBlock block → not (blocked .ok) ≡ false → r ≡ given (blocked .job) → r ≡ ofBlock block given left
-unfolding ofBlock
-block-given block given left {blocked} e h g = g ∙ (choice-yes given left blocked (not-false h) ∙ ap (choice given left) e)
+    pub block-given : {r : A} {left : List ℕ} → not (blocked .ok) ≡ false → call (blocked .job) r left → WithBlock block call no lent r left
+    unfolding fromBlock
+    block-given {r} {left} h c =
+        let yes = sym (shaped e) ∙ not-false h in
+        let same : blocked .job ≡ jobIn block = ap (λ (b : Blocked). b .job) e ∙ ap (λ (b : Bool). by b .job) yes in
+        WithBlock.shaped (shape-says block .means yes) (subst (λ (job : Job). call job r left) same c)

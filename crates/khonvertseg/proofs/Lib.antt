@@ -1,2 +1,3 @@
 -- Laws of the face.
 pub mod Block
+pub mod Unique

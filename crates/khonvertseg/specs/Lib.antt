@@ -1,3 +1,3 @@
--- The C face: each answer as the header lays it out, and the calls that take the job as a block.
+-- The C face: each answer as the header lays it out, and what each call promises.
 pub mod Flat
-pub mod Block
+pub mod Calls

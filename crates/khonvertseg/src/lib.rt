@@ -1,9 +1,7 @@
 // The C face: the calls under the names and layouts of include/khonvertseg.h. A row is lent as pointer and length.
 ghost use mathlib.Core.Path.{_≡_};
-ghost use Rattle.desk.specs.Changing.{opened, openedCells, addedJob, addedCells, correctedJob, correctedCells, removedJob, removedCells};
-ghost use Rattle.checker.specs.Checked.{checked};
 ghost use Rattle.khonvertseg.specs.Flat.{flatChanged, flatAsked, flatPlanned, flatChecked};
-ghost use Rattle.khonvertseg.specs.Block.{askedBlock, askedBlockCells, plannedBlock, plannedBlockBytes};
+ghost use Rattle.khonvertseg.specs.Calls.{KhonOpens, KhonAdds, KhonCorrects, KhonRemoves, AsksBlock, KhonAsks, PlansBlock, KhonPlans, KhonChecks};
 use desk::change;
 use desk::question;
 use desk::refusal;
@@ -116,16 +114,14 @@ fn flat_checked(answer: checker::Checked) -> KhonChecked
 
 #[no_mangle]
 pub extern "C" fn khon_open(width: u32, height: u32, cells: &mut [u32]) -> KhonChanged
-    ensures { λ r. ⌜ r ≡ flatChanged (opened width height (now (cells .entry))) ⌝ }
-    ensures { λ _. ⌜ now (cells .exit) ≡ openedCells width height (now (cells .entry)) ⌝ }
+    ensures { λ r. ⌜ KhonOpens width height (now (cells .entry)) r (now (cells .exit)) ⌝ }
 {
     flat_changed(change::open(width, height, cells))
 }
 
 #[no_mangle]
 pub extern "C" fn khon_add(job: Job, cells: &mut [u32], piece: Piece) -> KhonChanged
-    ensures { λ r. ⌜ r ≡ flatChanged (addedJob job (now (cells .entry)) piece) ⌝ }
-    ensures { λ _. ⌜ now (cells .exit) ≡ addedCells job (now (cells .entry)) piece ⌝ }
+    ensures { λ r. ⌜ KhonAdds job (now (cells .entry)) piece r (now (cells .exit)) ⌝ }
 {
     flat_changed(change::add(job, cells, piece))
 }
@@ -137,24 +133,21 @@ pub extern "C" fn khon_correct(
     number: u32,
     piece: Piece,
 ) -> KhonChanged
-    ensures { λ r. ⌜ r ≡ flatChanged (correctedJob job (now (cells .entry)) number piece) ⌝ }
-    ensures { λ _. ⌜ now (cells .exit) ≡ correctedCells job (now (cells .entry)) number piece ⌝ }
+    ensures { λ r. ⌜ KhonCorrects job (now (cells .entry)) number piece r (now (cells .exit)) ⌝ }
 {
     flat_changed(change::correct(job, cells, number, piece))
 }
 
 #[no_mangle]
 pub extern "C" fn khon_remove(job: Job, cells: &mut [u32], number: u32) -> KhonChanged
-    ensures { λ r. ⌜ r ≡ flatChanged (removedJob job (now (cells .entry)) number) ⌝ }
-    ensures { λ _. ⌜ now (cells .exit) ≡ removedCells job (now (cells .entry)) number ⌝ }
+    ensures { λ r. ⌜ KhonRemoves job (now (cells .entry)) number r (now (cells .exit)) ⌝ }
 {
     flat_changed(change::remove(job, cells, number))
 }
 
 // What is no job block counts as refusal 1.
 fn ask_block(block: &[u8], cells: &mut [u32], x: u32, y: u32) -> desk::Asked
-    ensures { λ r. ⌜ r ≡ askedBlock (now (block .entry)) (now (cells .entry)) x y ⌝ }
-    ensures { λ _. ⌜ now (cells .exit) ≡ askedBlockCells (now (block .entry)) (now (cells .entry)) x y ⌝ }
+    ensures { λ r. ⌜ AsksBlock (now (block .entry)) (now (cells .entry)) x y r (now (cells .exit)) ⌝ }
 {
     let blocked = from_block(block);
     if !blocked.ok {
@@ -166,16 +159,14 @@ fn ask_block(block: &[u8], cells: &mut [u32], x: u32, y: u32) -> desk::Asked
 
 #[no_mangle]
 pub extern "C" fn khon_ask(block: &[u8], cells: &mut [u32], x: u32, y: u32) -> KhonAsked
-    ensures { λ r. ⌜ r ≡ flatAsked (askedBlock (now (block .entry)) (now (cells .entry)) x y) ⌝ }
-    ensures { λ _. ⌜ now (cells .exit) ≡ askedBlockCells (now (block .entry)) (now (cells .entry)) x y ⌝ }
+    ensures { λ r. ⌜ KhonAsks (now (block .entry)) (now (cells .entry)) x y r (now (cells .exit)) ⌝ }
 {
     flat_asked(ask_block(block, cells, x, y))
 }
 
 // What is no job block counts as refusal 1.
 fn plan_block(block: &[u8], cells: &[u32], x: u32, y: u32, file: &mut [u8]) -> plan::Planned
-    ensures { λ r. ⌜ r ≡ plannedBlock (now (block .entry)) (now (cells .entry)) x y (now (file .entry)) ⌝ }
-    ensures { λ _. ⌜ now (file .exit) ≡ plannedBlockBytes (now (block .entry)) (now (cells .entry)) x y (now (file .entry)) ⌝ }
+    ensures { λ r. ⌜ PlansBlock (now (block .entry)) (now (cells .entry)) x y (now (file .entry)) r (now (file .exit)) ⌝ }
 {
     let blocked = from_block(block);
     if !blocked.ok {
@@ -193,15 +184,14 @@ pub extern "C" fn khon_plan(
     y: u32,
     file: &mut [u8],
 ) -> KhonPlanned
-    ensures { λ r. ⌜ r ≡ flatPlanned (plannedBlock (now (block .entry)) (now (cells .entry)) x y (now (file .entry))) ⌝ }
-    ensures { λ _. ⌜ now (file .exit) ≡ plannedBlockBytes (now (block .entry)) (now (cells .entry)) x y (now (file .entry)) ⌝ }
+    ensures { λ r. ⌜ KhonPlans (now (block .entry)) (now (cells .entry)) x y (now (file .entry)) r (now (file .exit)) ⌝ }
 {
     flat_planned(plan_block(block, cells, x, y, file))
 }
 
 #[no_mangle]
 pub extern "C" fn khon_check(file: &[u8]) -> KhonChecked
-    ensures { λ r. ⌜ r ≡ flatChecked (checked (now (file .entry))) ⌝ }
+    ensures { λ r. ⌜ KhonChecks (now (file .entry)) r ⌝ }
 {
     flat_checked(checker::check(file))
 }

@@ -1,12 +1,12 @@
 -- The laws of bestBelow, sumBelow, anyBelow and allBelow: none, one more, and what they say of every index.
 use Prim.Native.Nat.{ℕ, zero, suc, _+_, _≤_, _<_, max}
 use mathlib.Core.Bool.{Bool, true, false, _&&_, _||_}
-use mathlib.Core.Path.{_≡_, refl, sym, ap, ap₂, subst, _∙_}
+use mathlib.Core.Path.{_≡_, refl, sym, ap, ap₂, _∙_}
 use mathlib.Core.Logic.{_⊎_, inl, inr, ⊎-elim}
 use native.Mathlib.Omega.{arith}
 use native.Mathlib.Numerals.{add-one}
-use Rattle.laws.specs.Says.{Says}
-use Rattle.laws.specs.Below.{bestBelow, sumBelow, anyBelow, allBelow}
+use Rattle.laws.specs.Inner.{Says, bestBelow, anyBelow, allBelow}
+use Rattle.laws.specs.Below.{sumBelow}
 use Rattle.laws.proofs.Order.{le-or-lt, last-or-below}
 use Rattle.laws.proofs.Says.{true≢false}
 

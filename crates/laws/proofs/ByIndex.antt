@@ -1,11 +1,11 @@
 -- The laws of byIndex: its length, its elements, and that a list with these elements is it.
-use Prim.Native.Nat.{ℕ, zero, suc, _+_, _≤_, _<_}
+use Prim.Native.Nat.{ℕ, zero, suc, _+_, _<_}
 use mathlib.Core.Path.{_≡_, refl, sym, ap, ap₂, _∙_}
 use mathlib.Core.List.{List, [], _∷_, _++_}
 use native.Mathlib.Omega.{arith}
 use native.Mathlib.Numerals.{add-one}
-use lib.ListN.{length, getD, set, length-set}
-use lib.Seq.{ext-getD, getD-set-same, getD-set-other}
+use lib.ListN.{length, getD}
+use lib.Seq.{ext-getD}
 use Rattle.laws.specs.ByIndex.{byIndex}
 
 pub byIndex-length {ℓ} : {A : Type ℓ} (f : ℕ → A) (n : ℕ) → length (byIndex f n) ≡ n

@@ -1,7 +1,7 @@
 -- A choice by a test is a choice by the fact that the test stands for.
 use mathlib.Core.Bool.{Bool, true, false, cond}
 use mathlib.Core.Path.{_≡_, refl}
-use Rattle.laws.specs.Says.{Says}
+use Rattle.laws.specs.Inner.{Says}
 use Rattle.laws.proofs.Says.{says-no, says-false}
 
 pub chosen {ℓ} : {A : Type ℓ} {b : Bool} {P : Type 0} → Says b P → (m n : A) → P → cond b m n ≡ m

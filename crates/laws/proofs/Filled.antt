@@ -11,7 +11,7 @@ use lib.ListN.{length, getD, set, replicate, length-set, length-replicate, getD-
 use lib.Seq.{ext-getD, getD-set-same, getD-set-other}
 use borrow.Author.Tests.{lt-ltb, le-ltb}
 use Rattle.laws.specs.ByIndex.{byIndex}
-use Rattle.laws.specs.Filled.{filled}
+use Rattle.laws.specs.Inner.{filled}
 use Rattle.laws.proofs.Order.{le-or-lt, last-or-below, eq-or-not}
 use Rattle.laws.proofs.ByIndex.{byIndex-length, byIndex-at, is-byIndex}
 

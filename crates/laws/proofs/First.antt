@@ -1,10 +1,10 @@
 -- The laws of firstBelow: what it finds, that there is none, one more, and that only the test counts.
 use Prim.Native.Nat.{ℕ, zero, suc, _+_, _≤_, _<_}
 use mathlib.Core.Bool.{Bool, true, false}
-use mathlib.Core.Path.{_≡_, refl, sym, ap, _∙_, subst}
-use mathlib.Core.Logic.{_⊎_, inl, inr, ⊎-elim}
+use mathlib.Core.Path.{_≡_, refl, sym, ap, _∙_}
+use mathlib.Core.Logic.{_⊎_, ⊎-elim}
 use native.Mathlib.Omega.{arith}
-use Rattle.laws.specs.First.{firstBelow, First}
+use Rattle.laws.specs.Inner.{firstBelow, First}
 use Rattle.laws.proofs.Order.{last-or-below}
 use Rattle.laws.proofs.Says.{true≢false}
 
@@ -41,15 +41,6 @@ first-passes f (suc n) h = go (f zero) refl h (first-passes (λ k. f (suc k)) n)
     go : (b : Bool) → f zero ≡ b → begun b (firstBelow (λ k. f (suc k)) n) < suc n → (firstBelow (λ k. f (suc k)) n < n → f (suc (firstBelow (λ k. f (suc k)) n)) ≡ true) → f (begun b (firstBelow (λ k. f (suc k)) n)) ≡ true
     go true e h r = e
     go false e h r = r (omega arith)
-
-pub first-found : (f : ℕ → Bool) (n : ℕ) → firstBelow f n < n → First f n (firstBelow f n)
-first-found f n h = record { within = h; passes = first-passes f n h; first = first-before f n }
-
-pub first-none : (f : ℕ → Bool) (n : ℕ) → (firstBelow f n < n → ⊥) → (j : ℕ) → j < n → f j ≡ false
-first-none f n h j l = first-before f n j (omega (arith, first-within f n, at-end))
-  where
-    at-end : n ≤ firstBelow f n
-    at-end = omega arith
 
 -- There is only one first.
 pub first-only : {f : ℕ → Bool} {n k : ℕ} → First f n k → firstBelow f n ≡ k

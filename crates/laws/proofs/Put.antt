@@ -4,8 +4,8 @@ use mathlib.Core.Path.{_≡_, refl, sym, ap, ap₂, _∙_}
 use mathlib.Core.List.{List, [], _∷_, _++_, append-assoc}
 use native.Mathlib.Omega.{arith}
 use native.Mathlib.Nat.{add-zero}
-use lib.ListN.{length, take, drop, getD, set, length-append, length-drop, take-append-drop}
-use lib.Seq.{length-take-le, take-at, drop-at, drop-drop, getD-take, getD-drop, sets, sets-eq}
+use lib.ListN.{length, take, drop, set, length-append, length-drop, take-append-drop}
+use lib.Seq.{length-take-le, take-at, drop-at, drop-drop, sets, sets-eq}
 use Rattle.laws.specs.Put.{put}
 
 module _ {ℓ} {A : Type ℓ} where
@@ -27,15 +27,6 @@ module _ {ℓ} {A : Type ℓ} where
   unfolding put
   put-none o at = rw add-zero (take-append-drop at o)
 
-  -- What stands before the part, the part itself, and what stands after it.
-  pub put-take : (o : List A) (at : ℕ) (e : List A) → at ≤ length o → take at (put o at e) ≡ take at o
-  unfolding put
-  put-take o at e h = take-at (take at o) _ at (length-take-le at o h)
-
-  pub put-part : (o : List A) (at : ℕ) (e : List A) → at ≤ length o → take (length e) (drop at (put o at e)) ≡ e
-  unfolding put
-  put-part o at e h = ap (take (length e)) (drop-at (take at o) _ at (length-take-le at o h)) ∙ take-at e _ (length e) refl
-
   pub put-drop : (o : List A) (at : ℕ) (e : List A) → at ≤ length o → drop (at + length e) (put o at e) ≡ drop (at + length e) o
   unfolding put
   put-drop o at e h =
@@ -48,19 +39,6 @@ module _ {ℓ} {A : Type ℓ} where
   put-front o at e h =
       ap (take (at + length e)) (sym (append-assoc (take at o) e (drop (at + length e) o)))
       ∙ take-at (take at o ++ e) _ (at + length e) (length-append (take at o) e ∙ ap (λ (k : ℕ). k + length e) (length-take-le at o h))
-
-  pub put-before : (o : List A) (at : ℕ) (e : List A) (k : ℕ) (d : A) → at ≤ length o → k < at → getD (put o at e) k d ≡ getD o k d
-  put-before o at e k d h l =
-      sym (getD-take at (put o at e) k d l) ∙ (ap (λ (m : List A). getD m k d) (put-take o at e h) ∙ getD-take at o k d l)
-
-  pub put-inside : (o : List A) (at : ℕ) (e : List A) (k : ℕ) (d : A) → at ≤ length o → k < length e → getD (put o at e) (at + k) d ≡ getD e k d
-  put-inside o at e k d h l =
-      sym (getD-drop at (put o at e) k d)
-      ∙ (sym (getD-take (length e) (drop at (put o at e)) k d l) ∙ ap (λ (m : List A). getD m k d) (put-part o at e h))
-
-  pub put-after : (o : List A) (at : ℕ) (e : List A) (k : ℕ) (d : A) → at ≤ length o → getD (put o at e) (at + length e + k) d ≡ getD o (at + length e + k) d
-  put-after o at e k d h =
-      sym (getD-drop (at + length e) (put o at e) k d) ∙ (ap (λ (m : List A). getD m k d) (put-drop o at e h) ∙ getD-drop (at + length e) o k d)
 
   -- A part and the part right behind it are one part.
   pub put-put : (o : List A) (at : ℕ) (e f : List A) → at + length e ≤ length o → put (put o at e) (at + length e) f ≡ put o at (e ++ f)

@@ -4,7 +4,7 @@ use mathlib.Core.Bool.{Bool, true, false, not, _&&_}
 use mathlib.Core.Path.{_≡_, refl, sym, ap, ap₂, _∙_}
 use lib.Dec.{leb}
 use borrow.Author.Tests.{le-leb, lt-leb}
-use Rattle.laws.specs.Below.{allBelow}
+use Rattle.laws.specs.Inner.{allBelow}
 use Rattle.laws.proofs.Says.{true≢false, says-no}
 use Rattle.laws.proofs.Below.{allBelow-more, allBelow-says}
 

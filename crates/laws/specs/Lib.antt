@@ -1,8 +1,6 @@
--- General definitions that the kit lacks, one idea a file.
+-- General definitions that the kit lacks.
 pub mod Largest
-pub mod Says
 pub mod Below
 pub mod ByIndex
 pub mod Put
-pub mod Filled
-pub mod First
+pub mod Inner

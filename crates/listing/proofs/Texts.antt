@@ -1,29 +1,29 @@
 -- The lines of a tree where the choice at its top is known: what the code writes in each case.
 use Prim.Native.Nat.{ℕ, _+_, _≤_, _<_}
 use mathlib.Core.Bool.{Bool, true, false, cond}
-use mathlib.Core.Path.{_≡_, refl, sym, ap, ap₂, _∙_, subst}
+use mathlib.Core.Path.{_≡_, refl, sym, ap, ap₂, _∙_}
 use mathlib.Core.List.{List, _++_}
 use native.Mathlib.Omega.{arith}
 use native.Mathlib.Nat.{add-zero}
 use lib.Dec.{ltb}
 use borrow.Author.Tests.{lt-ltb, le-ltb}
-use Rattle.cutting.specs.Piece.{Piece, Lays, InRange}
+use Rattle.cutting.specs.Piece.{Piece}
 use Rattle.cutting.specs.Dissection.{rest}
 use Rattle.cutting.specs.Tree.{Tree, earning}
-use Rattle.points.specs.Rows.{Rows}
-use Rattle.tracer.specs.Choice.{near, far, numberOf, choose}
-use Rattle.tracer.specs.Traced.{lineOf, trimTo, leaf, trimmed, treeBy, tracesBy, traced, traces, HoldsPieces, Ready}
+use Rattle.points.specs.Inner.{Rows}
+use Rattle.tracer.specs.Inner.{near, far, numberOf, choose, lineOf, trimTo, leaf, trimmed, treeBy, tracesBy, traced, traces, HoldsPieces, Ready}
 use Rattle.tracer.specs.declared.Sides.{Sides}
 use Rattle.tracer.specs.declared.Cut.{Cut}
 use Rattle.tracer.specs.declared.Choice.{Choice}
 use Rattle.tracer.proofs.Depth.{Real}
 use Rattle.tracer.proofs.Traced.{traced-own, traces-own}
 use Rattle.tracer.proofs.Steps.{real-of, line-within, near-less, far-less}
-use Rattle.tracer.proofs.Valid.{trim-earns, earning-line, earning-scrap, both, traced-valid}
-use Rattle.printing.specs.Printed.{Printed}
+use Rattle.tracer.proofs.Valid.{trim-earns, both, traced-valid}
+use Rattle.printing.specs.Inner.{Printed}
 use Rattle.printing.proofs.Printed.{printed-as, printed-both}
 use Rattle.listing.specs.Line.{lineText}
-use Rattle.listing.specs.Listing.{listing, kindOf, upText, trimText, treeText, levelMost, Listable}
+use Rattle.listing.specs.Listing.{listing}
+use Rattle.listing.specs.Inner.{kindOf, upText, trimText, treeText, Listable}
 use Rattle.listing.specs.declared.Kind.{Kind}
 
 -- A rule 5 text, by whether its line is there.
@@ -31,7 +31,7 @@ pub up-whole : (level x y e q k : ℕ) → y ≤ q → lineText level x y e Kind
 unfolding upText
 up-whole level x y e q k h = sym (ap (λ (b : Bool). cond b (lineText level x y e Kind.Horizontal q ++ (lineText (level + 1) x q e Kind.Piece (k + 1) ++ lineText (level + 1) x (rest y q) 0 Kind.Scrap 0)) (lineText level x y e Kind.Piece (k + 1))) (le-ltb q y h))
 
-pub up-cut : (level x y e q k : ℕ) → q < y → lineText level x y e Kind.Horizontal q ++ (lineText (level + 1) x q e Kind.Piece (k + 1) ++ lineText (level + 1) x (rest y q) 0 Kind.Scrap 0) ≡ upText level x y e q k
+up-cut : (level x y e q k : ℕ) → q < y → lineText level x y e Kind.Horizontal q ++ (lineText (level + 1) x q e Kind.Piece (k + 1) ++ lineText (level + 1) x (rest y q) 0 Kind.Scrap 0) ≡ upText level x y e q k
 unfolding upText
 up-cut level x y e q k h = sym (ap (λ (b : Bool). cond b (lineText level x y e Kind.Horizontal q ++ (lineText (level + 1) x q e Kind.Piece (k + 1) ++ lineText (level + 1) x (rest y q) 0 Kind.Scrap 0)) (lineText level x y e Kind.Piece (k + 1))) (lt-ltb q y h))
 
@@ -39,9 +39,17 @@ pub trim-whole : (level x y e p q k : ℕ) → x ≤ p → upText level x y e q 
 unfolding trimText
 trim-whole level x y e p q k h = sym (ap (λ (b : Bool). cond b (lineText level x y e Kind.Vertical p ++ (upText (level + 1) p y e q k ++ lineText (level + 1) (rest x p) y 0 Kind.Scrap 0)) (upText level x y e q k)) (le-ltb p x h))
 
-pub trim-cut : (level x y e p q k : ℕ) → p < x → lineText level x y e Kind.Vertical p ++ (upText (level + 1) p y e q k ++ lineText (level + 1) (rest x p) y 0 Kind.Scrap 0) ≡ trimText level x y e p q k
+trim-cut : (level x y e p q k : ℕ) → p < x → lineText level x y e Kind.Vertical p ++ (upText (level + 1) p y e q k ++ lineText (level + 1) (rest x p) y 0 Kind.Scrap 0) ≡ trimText level x y e p q k
 unfolding trimText
 trim-cut level x y e p q k h = sym (ap (λ (b : Bool). cond b (lineText level x y e Kind.Vertical p ++ (upText (level + 1) p y e q k ++ lineText (level + 1) (rest x p) y 0 Kind.Scrap 0)) (upText level x y e q k)) (lt-ltb p x h))
+
+-- Its lines, written one behind the other.
+module _ {o r s t : List ℕ} {at l m n : ℕ} where
+  pub up-printed : (level x y e q k : ℕ) → q < y → Printed o at (lineText level x y e Kind.Horizontal q) l r → Printed r l (lineText (level + 1) x q e Kind.Piece (k + 1)) m s → Printed s m (lineText (level + 1) x (rest y q) 0 Kind.Scrap 0) n t → Printed o at (upText level x y e q k) n t
+  up-printed level x y e q k h u v w = printed-as (up-cut level x y e q k h) (printed-both _ _ u (printed-both _ _ v w))
+
+  pub trim-printed : (level x y e p q k : ℕ) → p < x → Printed o at (lineText level x y e Kind.Vertical p) l r → Printed r l (upText (level + 1) p y e q k) m s → Printed s m (lineText (level + 1) (rest x p) y 0 Kind.Scrap 0) n t → Printed o at (trimText level x y e p q k) n t
+  trim-printed level x y e p q k h u v w = printed-as (trim-cut level x y e p q k h) (printed-both _ _ u (printed-both _ _ v w))
 
 -- The sizes as they were read.
 pub trim-read : (level x y e k : ℕ) {p q m n : ℕ} → m ≡ p → n ≡ q → trimText level x y e m n k ≡ trimText level x y e p q k

@@ -1,5 +1,5 @@
 // The lines that the program prints.
-ghost use Rattle.printing.specs.Printed.{Printed};
+ghost use Rattle.printing.specs.Inner.{Printed};
 ghost use Rattle.listing.specs.Line.{wordOf, spaced, ended, lineText, headText, refusedText};
 use crate::Kind;
 use printing::put_byte;
@@ -33,7 +33,7 @@ fn put_kind(o: &mut [u8], at: usize, kind: Kind) -> usize
 }
 
 // Writes the line of a node.
-pub fn put_line(
+pub(crate) fn put_line(
     o: &mut [u8],
     at: usize,
     level: usize,

@@ -1,5 +1,5 @@
--- The encoding at a place of a row of bytes, and that no two trees have the same one.
-use Prim.Native.Nat.{ℕ, _+_, _/_, _%_, _≤_, _<_}
+-- The encoding at a place of a row of bytes, that no two trees have the same one, and its length.
+use Prim.Native.Nat.{ℕ, _+_, _*_, _/_, _%_, _≤_, _<_}
 use mathlib.Core.Path.{_≡_, refl, sym, ap, ap₂, _∙_}
 use mathlib.Core.List.{List, [], _∷_, _++_, append-assoc}
 use native.Mathlib.Omega.{arith}
@@ -8,10 +8,11 @@ use native.Mathlib.Numerals.{add-one}
 use lib.ListN.{length, getD, drop, length-append, length-drop, take-append-drop}
 use lib.Seq.{drop-cons, drop-drop, drop-append-seam, getD-drop}
 use Rattle.cutting.specs.Piece.{Piece}
-use Rattle.cutting.specs.Tree.{Tree, Valid}
+use Rattle.cutting.specs.Tree.{Tree, Valid, nodes}
 use Rattle.fields.specs.Number.{number2Of, bytes2, Bytes}
 use Rattle.fields.proofs.Number.{number2-drop, number2-bytes, bytes2-number}
-use Rattle.nodes.specs.Encoding.{letterV, letterH, letterP, letterS, nodeLength, node, encode, Written}
+use Rattle.nodes.specs.Encoding.{letterV, letterH, letterP, letterS, nodeLength, node, encode}
+use Rattle.nodes.specs.Inner.{Written}
 use Rattle.nodes.specs.Reads.{Found}
 
 -- One encoding behind another.
@@ -142,10 +143,20 @@ valid-written n h k (Valid.lineH l s t) = (omega arith, valid-written n h (omega
 valid-written n h k (Valid.pieceP m) = omega (arith, m .last)
 valid-written n h k Valid.scrapS = tt
 
--- A tree has one node at least.
+-- The length of a line's nodes, and of all nodes of a tree: there is one at least.
+pub line-length : (letter c : ℕ) (s t : Tree) → length (node letter c ++ (encode s ++ encode t)) ≡ nodeLength + length (encode s) + length (encode t)
+line-length letter c s t = omega (arith, length-append (node letter c) (encode s ++ encode t), length-append (encode s) (encode t), node-length letter c)
+
+pub encode-length : (t : Tree) → length (encode t) ≡ nodeLength * nodes t
+unfolding encode nodes
+encode-length (Tree.lineV c s t) = omega (arith, line-length letterV c s t, encode-length s, encode-length t)
+encode-length (Tree.lineH d s t) = omega (arith, line-length letterH d s t, encode-length s, encode-length t)
+encode-length (Tree.pieceP k) = node-length letterP k
+encode-length Tree.scrapS = node-length letterS 0
+
 pub encode-least : (t : Tree) → nodeLength ≤ length (encode t)
 unfolding encode
-encode-least (Tree.lineV c s t) = omega (arith, length-append (node letterV c) (encode s ++ encode t), node-length letterV c)
-encode-least (Tree.lineH d s t) = omega (arith, length-append (node letterH d) (encode s ++ encode t), node-length letterH d)
+encode-least (Tree.lineV c s t) = omega (arith, line-length letterV c s t)
+encode-least (Tree.lineH d s t) = omega (arith, line-length letterH d s t)
 encode-least (Tree.pieceP k) = omega (arith, node-length letterP k)
 encode-least Tree.scrapS = omega (arith, node-length letterS 0)

@@ -9,10 +9,9 @@ use lib.Seq.{drop-length}
 use Rattle.cutting.specs.Piece.{Piece, pieceAt, Numbered}
 use Rattle.cutting.specs.Dissection.{rest, Line}
 use Rattle.cutting.specs.Tree.{Tree, Valid, earning, pieceArea, scrapArea}
-use Rattle.cutting.proofs.Tree.{areas}
 use Rattle.fields.specs.Number.{number2Of, Bytes}
-use Rattle.nodes.specs.Encoding.{letterV, letterH, letterP, letterS, nodeLength, node, encode, Written}
-use Rattle.nodes.specs.Reader.{area, added, pieceTally, scrapTally, acrossWidth, acrossHeight, partBy, partWithin, nodeAt, partAt}
+use Rattle.nodes.specs.Encoding.{letterV, letterH, letterP, letterS, nodeLength, node, encode}
+use Rattle.nodes.specs.Inner.{Written, added, pieceTally, scrapTally, acrossWidth, acrossHeight, partBy, partWithin, nodeAt, partAt}
 use Rattle.nodes.specs.Reads.{Found, tallyOf, ReadAs}
 use Rattle.nodes.specs.declared.Sides.{Sides}
 use Rattle.nodes.specs.declared.Frame.{Frame}
@@ -158,8 +157,3 @@ gives-back pieces t x y few wide high v =
   where
     whole : (e : List ℕ) → Found e 0 e (length e)
     whole e = record { place = omega arith; bytes = sym (ap (λ (l : List ℕ). e ++ l) (drop-length e) ∙ append-nil e) }
-
--- "it is proved that together they make width times height"
-pub areas-make : {pieces : List Piece} {s : List ℕ} {f : Frame} {next : ℕ} {t : Tally} → ReadAs pieces s f next t → t .pieces + t .scrap ≡ area (f .sides)
-unfolding tallyOf
-areas-make r = ap (λ (q : Tally). q .pieces + q .scrap) (r .sums) ∙ areas (r .valid)

@@ -4,7 +4,7 @@ use mathlib.Core.Path.{_≡_, refl, sym, ap, _∙_}
 use mathlib.Core.List.{List}
 use native.Mathlib.Omega.{arith}
 use Rattle.cutting.specs.Piece.{Piece}
-use Rattle.nodes.specs.Reader.{added, nearPart, farPart, joined, after, lineBy, partBy, partWithin, nodeAt, partAt, lineAt}
+use Rattle.nodes.specs.Inner.{added, nearPart, farPart, joined, after, lineBy, partBy, partWithin, nodeAt, partAt, lineAt}
 use Rattle.nodes.specs.declared.Sides.{Sides}
 use Rattle.nodes.specs.declared.Frame.{Frame}
 use Rattle.nodes.specs.declared.Split.{Split}

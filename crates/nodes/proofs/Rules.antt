@@ -7,16 +7,15 @@ use mathlib.Core.List.{List}
 use native.Mathlib.Omega.{arith}
 use lib.ListN.{length, getD}
 use lib.Dec.{ltb}
-use Rattle.laws.specs.Says.{Says}
+use Rattle.laws.specs.Inner.{Says}
 use Rattle.laws.proofs.Choice.{chosen, not-chosen, either-way}
 use Rattle.laws.proofs.Says.{says-iff, says-and, says-le, says-lt, says-eq, says-same}
 use Rattle.laws.proofs.ByIndex.{byIndex-at, byIndex-length}
 use Rattle.cutting.specs.Piece.{Piece, noPiece, pieceAt, Numbered}
 use Rattle.cutting.specs.Dissection.{rest, Line}
 use Rattle.fields.specs.Number.{number2Of}
-use Rattle.nodes.specs.Rows.{rows}
+use Rattle.nodes.specs.Inner.{rows, area, scrapTally, pieceTally, scrapNode, isPiece, pieceNode, isInside, acrossWidth, acrossHeight, verticalNode, horizontalNode, letterNode, nodeAt}
 use Rattle.nodes.specs.Encoding.{letterV, letterH, letterP, letterS, nodeLength}
-use Rattle.nodes.specs.Reader.{area, scrapTally, pieceTally, scrapNode, isPiece, pieceNode, isInside, acrossWidth, acrossHeight, verticalNode, horizontalNode, letterNode, nodeAt}
 use Rattle.nodes.specs.declared.Sides.{Sides}
 use Rattle.nodes.specs.declared.Frame.{Frame}
 use Rattle.nodes.specs.declared.Node.{Node}

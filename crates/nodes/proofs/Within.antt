@@ -7,7 +7,7 @@ use native.Mathlib.Nat.{add-mul, mul-add, mul-le-mul}
 use Rattle.cutting.specs.Limits.{valueMax}
 use Rattle.cutting.specs.Piece.{Piece, Numbered, Lays, InRange}
 use Rattle.cutting.specs.Dissection.{Line}
-use Rattle.nodes.specs.Reader.{area, added, pieceTally, nearPart, farPart, partBy, partWithin, nodeAt, partAt, Ready, ReadyLine, AddUp}
+use Rattle.nodes.specs.Inner.{area, added, pieceTally, nearPart, farPart, partBy, partWithin, nodeAt, partAt, Ready, ReadyLine, AddUp}
 use Rattle.nodes.specs.declared.Sides.{Sides}
 use Rattle.nodes.specs.declared.Frame.{Frame}
 use Rattle.nodes.specs.declared.Split.{Split}

@@ -1,5 +1,5 @@
 -- "Then the nodes, a line before its left or lower part and that before the other."
-use Prim.Native.Nat.{ℕ, _<_}
+use Prim.Native.Nat.{ℕ}
 use mathlib.Core.List.{List, _∷_, _++_}
 use Rattle.cutting.specs.Tree.{Tree}
 use Rattle.fields.specs.Number.{bytes2}
@@ -30,10 +30,3 @@ encode (Tree.lineV c s t) = node letterV c ++ (encode s ++ encode t)
 encode (Tree.lineH d s t) = node letterH d ++ (encode s ++ encode t)
 encode (Tree.pieceP k) = node letterP k
 encode Tree.scrapS = node letterS 0
-
--- Each number of the tree has its two bytes.
-unfoldable pub Written : Tree → Type 0
-Written (Tree.lineV c s t) = (c < 65_536) × Written s × Written t
-Written (Tree.lineH d s t) = (d < 65_536) × Written s × Written t
-Written (Tree.pieceP k) = k < 65_536
-Written Tree.scrapS = Unit {0}

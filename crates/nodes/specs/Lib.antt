@@ -1,5 +1,4 @@
 -- What the nodes of a plan file are, and what reading them means.
-pub mod Rows
 pub mod Encoding
-pub mod Reader
 pub mod Reads
+pub mod Inner

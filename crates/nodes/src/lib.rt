@@ -3,8 +3,7 @@ use fields::number2;
 ghost use mathlib.Core.Path.{_≡_};
 ghost use Prim.Native.Nat.{_+_, _*_, _≤_};
 ghost use Rattle.cutting.specs.Limits.{piecesMax};
-ghost use Rattle.nodes.specs.Rows.{rows};
-ghost use Rattle.nodes.specs.Reader.{Small, Ready, ReadyLine, AddUp, area, added, isInside, scrapNode, pieceNode, verticalNode, horizontalNode, letterNode, nodeAt, partAt, lineAt};
+ghost use Rattle.nodes.specs.Inner.{rows, Small, Ready, ReadyLine, AddUp, area, added, isInside, scrapNode, pieceNode, verticalNode, horizontalNode, letterNode, nodeAt, partAt, lineAt};
 
 pub struct Sides {
     pub width: u32,

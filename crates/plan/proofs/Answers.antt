@@ -1,35 +1,37 @@
 -- How plan joins its refusal and its work, over the definitions.
-use Prim.Native.Nat.{ℕ, zero, suc, _+_, _≤_, _<_}
+use Prim.Native.Nat.{ℕ, zero, suc, _+_, _*_, _≤_, _<_}
 use mathlib.Core.Bool.{true}
 use mathlib.Core.List.{List}
 use mathlib.Core.Path.{_≡_, refl, sym, ap, ap₂, _∙_}
 use native.Mathlib.Omega.{arith}
+use native.Mathlib.Nat.{mul-le-mul}
 use lib.ListN.{length}
 use Rattle.laws.specs.Put.{put}
+use Rattle.cutting.specs.Limits.{sideMax}
 use Rattle.cutting.specs.Piece.{Inside}
 use Rattle.cutting.specs.Tree.{earning}
-use Rattle.cells.specs.Cells.{cellOf, Holds}
+use Rattle.cells.specs.Cells.{cellOf}
+use Rattle.cells.specs.Inner.{Holds}
 use Rattle.job.specs.declared.Job.{Job}
 use Rattle.job.specs.Job.{piecesOf}
 use Rattle.job.specs.Block.{blockLength}
 use Rattle.tracer.specs.declared.Measured.{Measured}
-use Rattle.tracer.specs.Choice.{by}
-use Rattle.tracer.specs.Traced.{measured, Wrote}
+use Rattle.tracer.specs.Inner.{by, measured, Wrote}
 use Rattle.checker.specs.Refusals.{trailerLength, fileMost}
-use Rattle.desk.specs.Refusals.{orElse, accepted}
-use Rattle.desk.specs.Asking.{jobRows}
+use Rattle.desk.specs.Inner.{orElse, accepted, jobRows}
 use Rattle.desk.proofs.Chain.{if-less, if-enough}
 use Rattle.desk.proofs.Answers.{given, left-as-it-was}
 use Rattle.plan.specs.declared.Planned.the-variants.{Written, Refused}
-use Rattle.plan.specs.File.{sheetOf, treeFor, tracesFor, planFile}
-use Rattle.plan.specs.Refusals.{fileRefused, Readable}
-use Rattle.plan.specs.Planning.{answerWith, Ready}
-use Rattle.plan.proofs.Tracing.{trace-ready, measured-struck, measured-length, tree-dissects, few-nodes}
+use Rattle.plan.specs.File.{sheetOf}
+use Rattle.plan.specs.Inner.{treeFor, tracesFor, planFile, fileRefused, answerWith, Ready}
+use Rattle.plan.specs.Refusals.{Readable}
+use Rattle.plan.proofs.Tracing.{trace-ready, measured-struck, measured-length, tree-by-rules, tree-dissects}
 use Rattle.plan.proofs.Writing.{sheet-pieces, file-length}
+use Rattle.plan.proofs.Enough.{plan-enough}
 
-pub refused-answer : {r refusal : ℕ} {o : List ℕ} (length value : ℕ) (file : List ℕ) → r ≡ refusal → (r ≡ 0 → ⊥) → (Refused r ≡ answerWith refusal length value) × (o ≡ accepted refusal file o)
-refused-answer {r = zero} length value file e h = absurd (h refl)
-refused-answer {r = suc k} {o = o} length value file e h = (ap (λ (n : ℕ). answerWith n length value) e, left-as-it-was file o e h)
+pub refused-answer : {r refusal : ℕ} {o : List ℕ} (bytes value : ℕ) (file : List ℕ) → r ≡ refusal → (r ≡ 0 → ⊥) → (Refused r ≡ answerWith refusal bytes value) × (o ≡ accepted refusal file o)
+refused-answer {r = zero} bytes value file e h = absurd (h refl)
+refused-answer {r = suc k} {o = o} bytes value file e h = (ap (λ (n : ℕ). answerWith n bytes value) e, left-as-it-was file o e h)
 
 pub written-answer : {r refusal n v value : ℕ} {o o' : List ℕ} {file : List ℕ} → r ≡ refusal → r ≡ 0 → Wrote o 0 file n o' → v ≡ value → (Written n v ≡ answerWith refusal (length file) value) × (o' ≡ accepted refusal (put o 0 file) o)
 written-answer {value = value} {o = o} {file = file} e z w f =
@@ -46,11 +48,15 @@ module _ (job : Job) (t : List ℕ) (x y : ℕ) where
   -- The number in the cell is what the tree earns.
   pub cell-earned : {v : ℕ} → Readable job t x y → tracesFor job t x y ≡ true → v ≡ cellOf (job .width) t x y → v ≡ earning (piecesOf (sheetOf job x y)) (treeFor job t x y)
   cell-earned r h e =
-      e ∙ sym (ap (λ ps. earning ps (treeFor job t x y)) (sheet-pieces job x y) ∙ tree-dissects job t x y r h .earns)
+      e ∙ sym (ap (λ ps. earning ps (treeFor job t x y)) (sheet-pieces job x y) ∙ tree-dissects job t x y r (tree-by-rules job t x y r h) .earns)
 
   -- No file is longer than check takes.
   pub file-short : Readable job t x y → tracesFor job t x y ≡ true → length (planFile job t x y) ≤ fileMost
-  file-short r h = omega (arith, file-length (sheetOf job x y) (treeFor job t x y), few-nodes job t x y r h, r .usable .range .countMost)
+  file-short r h =
+      let i = r .inside in
+      let u = r .usable .range in
+      let sides : x * y ≤ sideMax * sideMax = mul-le-mul {n₁ = x} {m₁ = y} {n₂ = sideMax} {m₂ = sideMax} (omega arith) (omega arith) in
+      omega (arith, plan-enough job (tree-dissects job t x y r (tree-by-rules job t x y r h) .valid) (i .widthLeast) (i .heightLeast))
 
   pub length-fits : {o o' : List ℕ} {n : ℕ} → Ready job t x y o → Wrote o 0 (planFile job t x y) n o' → n ≤ fileMost
   length-fits k w = omega (arith, w .place, file-short (k .readable) (k .traces))

@@ -14,10 +14,10 @@ use Rattle.job.specs.declared.Job.{Job}
 use Rattle.job.specs.Job.{piecesOf}
 use Rattle.job.specs.Block.{block, blockOf, blockLength}
 use Rattle.nodes.specs.Encoding.{encode}
-use Rattle.tracer.specs.Traced.{Room, Wrote}
+use Rattle.tracer.specs.Inner.{Room, Wrote}
 use Rattle.checker.specs.Refusals.{fileMost}
-use Rattle.plan.specs.File.{sheetOf, treeFor, planFile}
-use Rattle.plan.specs.Planning.{Ready}
+use Rattle.plan.specs.File.{sheetOf}
+use Rattle.plan.specs.Inner.{treeFor, planFile, Ready}
 use Rattle.plan.proofs.Writing.{sheet-pieces, body-length, file-length, block-room, nodes-room, at-end, trailer-room, sum-room, file-written}
 use Rattle.plan.proofs.Answers.{cell-earned, file-short}
 

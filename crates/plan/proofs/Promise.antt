@@ -1,11 +1,11 @@
--- The promise determines answer and buffer; a planned file is accepted by check; what comes after it stays; a refusal changes nothing.
+-- The promise determines answer and buffer; a planned file is accepted by check.
 use Prim.Native.Nat.{ℕ, zero, suc, _+_}
 use mathlib.Core.List.{List, []}
 use mathlib.Core.Path.{_≡_, refl, sym, ap, ap₂, _∙_}
 use native.Mathlib.Omega.{arith}
-use lib.ListN.{length, take, drop}
+use lib.ListN.{length, take}
 use Rattle.laws.specs.Put.{put}
-use Rattle.laws.proofs.Put.{put-front, put-drop, put-length}
+use Rattle.laws.proofs.Put.{put-front}
 use Rattle.cutting.specs.Tree.{Tree, Valid, pieceArea, scrapArea}
 use Rattle.cutting.proofs.Tree.{areas}
 use Rattle.cells.specs.Cells.{cellOf}
@@ -13,17 +13,14 @@ use Rattle.job.specs.declared.Job.{Job}
 use Rattle.job.specs.Job.{piecesOf}
 use Rattle.job.specs.Range.{JobInRange}
 use Rattle.checker.specs.declared.Checked.{Checked}
-use Rattle.checker.specs.Checked.{checked}
+use Rattle.checker.specs.Inner.{checked}
 use Rattle.checker.proofs.Accepts.{plan-accepted}
-use Rattle.desk.proofs.Answers.{given, left-as-it-was}
+use Rattle.desk.proofs.Answers.{given}
 use Rattle.plan.specs.declared.Planned.{Planned}
-use Rattle.plan.specs.declared.Planned.the-variants.{Written, Refused}
-use Rattle.plan.specs.File.{sheetOf, treeFor, planFile}
-use Rattle.plan.specs.Refusals.{planRefused}
-use Rattle.plan.specs.Planning.{numbersOf, answerWith, planned, plannedBytes, Ready}
-use Rattle.plan.specs.Promise.{PlanPromise}
-use Rattle.plan.specs.Accepted.{AcceptedAs}
-use Rattle.plan.proofs.Tracing.{tree-dissects}
+use Rattle.plan.specs.declared.Planned.the-variants.{Written}
+use Rattle.plan.specs.File.{sheetOf}
+use Rattle.plan.specs.Inner.{treeFor, planFile, planRefused, answerWith, planned, plannedBytes, Ready, PlanPromise, AcceptedAs}
+use Rattle.plan.proofs.Tracing.{tree-by-rules, tree-dissects}
 use Rattle.plan.proofs.Writing.{sheet-pieces}
 use Rattle.plan.proofs.Exactly.{plan-granted}
 use Rattle.plan.proofs.Answers.{cell-earned, file-short}
@@ -33,31 +30,11 @@ pub plan-unique : (job : Job) (t : List ℕ) (x y : ℕ) (o : List ℕ) {r s : P
 plan-unique job t x y o f g = (f .0 ∙ sym (g .0), f .1 ∙ sym (g .1))
 
 -- What an answer says of the refusal, the length and the value.
-written-says : {n v length value : ℕ} (k : ℕ) → Written n v ≡ answerWith k length value → (k ≡ 0) × (n ≡ length) × (v ≡ value)
+written-says : {n v bytes value : ℕ} (k : ℕ) → Written n v ≡ answerWith k bytes value → (k ≡ 0) × (n ≡ bytes) × (v ≡ value)
 written-says zero e = (refl, cc, cc)
 written-says (suc k) e = let z : _≡_ {A = ℕ} 0 1 = cc in absurd (omega arith)
 
-refused-says : {r : ℕ} (length value k : ℕ) → Refused r ≡ answerWith k length value → (k ≡ r) × (k ≡ 0 → ⊥)
-refused-says length value zero e = let z : _≡_ {A = ℕ} 0 1 = cc in absurd (omega arith)
-refused-says length value (suc k) e = (cc, λ z. omega arith)
-
--- The number of an answer is that of the list; "with value, .. lengths .. 0" where it is no 0.
-pub plan-number : (job : Job) (t : List ℕ) (x y room : ℕ) → numbersOf (planned job t x y room) .refusal ≡ planRefused job t x y room
-unfolding planned
-plan-number job t x y room = by (planRefused job t x y room)
-  where
-    by : (k : ℕ) → numbersOf (answerWith k (length (planFile job t x y)) (cellOf (job .width) t x y)) .refusal ≡ k
-    by zero = refl
-    by (suc k) = refl
-
 module _ (job : Job) (t : List ℕ) (x y : ℕ) (o : List ℕ) where
-  -- "A refusal .. changes nothing lent."
-  pub plan-refused-leaves : {r : ℕ} {p : List ℕ} → PlanPromise job t x y o (Refused r) p → (planRefused job t x y (length o) ≡ r) × (p ≡ o)
-  unfolding planned plannedBytes
-  plan-refused-leaves f =
-      let k = refused-says (length (planFile job t x y)) (cellOf (job .width) t x y) (planRefused job t x y (length o)) (f .0) in
-      (k .0, f .1 ∙ sym (left-as-it-was (put o 0 (planFile job t x y)) o refl (k .1)))
-
   module _ {n value : ℕ} {p : List ℕ} (f : PlanPromise job t x y o (Written n value) p) where
     says : (planRefused job t x y (length o) ≡ 0) × (n ≡ length (planFile job t x y)) × (value ≡ cellOf (job .width) t x y)
     unfolding planned
@@ -81,12 +58,6 @@ module _ (job : Job) (t : List ℕ) (x y : ℕ) (o : List ℕ) where
     pub plan-file : take n p ≡ planFile job t x y
     plan-file = ap₂ take end put-there ∙ put-front o 0 (planFile job t x y) (omega arith)
 
-    pub plan-stays : drop n p ≡ drop n o
-    plan-stays = ap₂ drop end put-there ∙ (put-drop o 0 (planFile job t x y) (omega arith) ∙ ap (λ (k : ℕ). drop k o) (sym end))
-
-    pub plan-length : length p ≡ length o
-    plan-length = ap length put-there ∙ put-length o 0 (planFile job t x y) (omega (arith, ready .room))
-
     abbrev sheet : Job
     sheet = sheetOf job x y
 
@@ -107,7 +78,7 @@ module _ (job : Job) (t : List ℕ) (x y : ℕ) (o : List ℕ) where
         }
 
     valid : Valid (piecesOf sheet) tree x y
-    valid = rw (sheet-pieces job x y) (tree-dissects job t x y (ready .readable) (ready .traces) .valid)
+    valid = rw (sheet-pieces job x y) (tree-dissects job t x y (ready .readable) (tree-by-rules job t x y (ready .readable) (ready .traces)) .valid)
 
     -- Whenever plan writes, check accepts the file, with note length 0, the answered value, and areas that make x by y.
     pub plan-checked : AcceptedAs (take n p) x y value

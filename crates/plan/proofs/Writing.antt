@@ -16,7 +16,7 @@ use Rattle.job.specs.Block.{blockOf, blockLength}
 use Rattle.job.proofs.Pieces.{pieces-length}
 use Rattle.job.proofs.Blocks.{block-length}
 use Rattle.nodes.specs.Encoding.{encode}
-use Rattle.tracer.specs.Traced.{Room, Wrote}
+use Rattle.tracer.specs.Inner.{Room, Wrote}
 use Rattle.checker.specs.Refusals.{trailerLength}
 use Rattle.checker.specs.PlanFile.{body, pointers, summed, planBytes}
 use Rattle.plan.specs.File.{sheetOf}

@@ -3,24 +3,23 @@ use Prim.Native.Nat.{ℕ}
 use mathlib.Core.List.{List}
 use mathlib.Core.Path.{_≡_}
 use lib.ListN.{length, take}
-use Rattle.cutting.specs.Piece.{Inside, Lays}
+use Rattle.cutting.specs.Piece.{Lays}
 use Rattle.cutting.specs.Dissection.{Best}
-use Rattle.cells.specs.Cells.{empty, cellOf}
+use Rattle.cutting.specs.Tree.{Tree, Valid, earning}
 use Rattle.job.specs.declared.Job.{Job}
 use Rattle.job.specs.Job.{piecesOf}
 use Rattle.plan.specs.declared.Planned.{Planned}
 use Rattle.plan.specs.declared.Planned.the-variants.{Written}
-use Rattle.plan.specs.File.{planFile}
-use Rattle.plan.specs.Accepted.{AcceptedAs}
+use Rattle.plan.specs.File.{fileOf}
 
--- Every filled cell of the sheet holds its best value.
-abbrev pub HoldsBest : Job → List ℕ → Type 0
-HoldsBest job t =
-    (u w : ℕ) → Inside u w (job .width) (job .height) → (cellOf (job .width) t u w ≡ empty → ⊥) → Best (Lays (piecesOf job)) u w (cellOf (job .width) t u w)
-
--- Plan answers the file's length and the cell's value; the file is in the buffer p, and check accepts it with that value, which
--- is the best value.
-pub record PlansBest (job : Job) (t : List ℕ) (x y : ℕ) (r : Planned) (p : List ℕ) : Type 0 where
-  pub written : r ≡ Written (length (planFile job t x y)) (cellOf (job .width) t x y)
-  pub checked : AcceptedAs (take (length (planFile job t x y)) p) x y (cellOf (job .width) t x y)
-  pub best : Best (Lays (piecesOf job)) x y (cellOf (job .width) t x y)
+-- A best plan of x by y is in the buffer p, and r is the answer.
+pub record PlansBest (job : Job) (x y : ℕ) (r : Planned) (p : List ℕ) : Type 0 where
+  -- A tree that dissects x by y into the job's pieces and earns the value, which is the best value.
+  pub tree : Tree
+  pub value : ℕ
+  pub valid : Valid (piecesOf job) tree x y
+  pub earns : earning (piecesOf job) tree ≡ value
+  pub best : Best (Lays (piecesOf job)) x y value
+  -- Its file on the job, with the sides x and y, stands at the start of the buffer; the answer is its length and the value.
+  pub written : r ≡ Written (length (fileOf job x y tree)) value
+  pub file : take (length (fileOf job x y tree)) p ≡ fileOf job x y tree

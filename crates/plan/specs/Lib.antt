@@ -2,6 +2,6 @@
 pub mod File
 pub mod Refusals
 pub mod Planning
-pub mod Promise
-pub mod Accepted
 pub mod Best
+pub mod Enough
+pub mod Inner

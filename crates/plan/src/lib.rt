@@ -1,10 +1,10 @@
 // The call plan: the file of the tree for a rectangle, written into a lent buffer. It has no `requires`.
 // refusal.rt: the chain of refusals; tree.rt: the tree by the job's rows and marks; file.rt: the file's parts.
-ghost use Rattle.plan.specs.Promise.{PlanPromise};
+ghost use Rattle.plan.specs.Inner.{PlanPromise};
 use job::Job;
 
 mod file;
-pub mod refusal;
+mod refusal;
 mod tree;
 
 // The answer of plan: the file's length and its value, or the refusal's number.

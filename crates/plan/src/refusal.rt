@@ -2,9 +2,10 @@
 ghost use mathlib.Core.Path.{_≡_};
 ghost use Prim.Native.Nat.{_+_, _≤_};
 ghost use Rattle.job.specs.Block.{blockLength};
-ghost use Rattle.tracer.specs.Traced.{lengthMost};
+ghost use Rattle.tracer.specs.Inner.{lengthMost};
 ghost use Rattle.checker.specs.Refusals.{trailerLength};
-ghost use Rattle.plan.specs.Refusals.{boxRefused, fileRefused, planRefused, Readable};
+ghost use Rattle.plan.specs.Refusals.{Readable};
+ghost use Rattle.plan.specs.Inner.{boxRefused, fileRefused, planRefused};
 use crate::tree::measure_for;
 use crate::tree::wide;
 use checker::TRAILER_LENGTH;

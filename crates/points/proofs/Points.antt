@@ -10,13 +10,13 @@ use native.Mathlib.Decide.{ℕ-discrete}
 use lib.ListN.{length, getD, set, replicate, length-set, length-replicate, getD-replicate}
 use lib.Seq.{getD-set-same, getD-set-other}
 use lib.Dec.{leb}
-use Rattle.laws.specs.Says.{Says}
+use Rattle.laws.specs.Inner.{Says}
 use Rattle.laws.proofs.Says.{true≢false, says-iff, says-no, says-le, says-same}
 use Rattle.laws.proofs.ByIndex.{byIndex-at, byIndex-length, is-byIndex}
 use Rattle.cutting.specs.Limits.{sideMax}
 use Rattle.cutting.specs.Piece.{Lay}
 use Rattle.cutting.specs.Points.{Width, Sum, one, more, P}
-use Rattle.points.specs.Marks.{Size, someMakes, reaches, isPoint, markCount, marksOf}
+use Rattle.points.specs.Inner.{Size, someMakes, reaches, isPoint, markCount, marksOf}
 use Rattle.points.proofs.Reaches.{reaches-least, reaches-next, reaches-says}
 
 module _ (size : ℕ → ℕ) (n side : ℕ) where

@@ -9,12 +9,12 @@ use native.Mathlib.Nat.{eq-or-lt-of-le}
 use lib.Dec.{ltb, eqb}
 use lib.ListN.{length, getD, length-append, List·getD-eq-default, List·getD-append}
 use lib.Seq.{getD-at}
-use Rattle.laws.specs.Says.{Says}
+use Rattle.laws.specs.Inner.{Says}
 use Rattle.laws.proofs.Says.{true≢false, says-no, says-iff, says-lt, says-eq, says-and, says-or}
 use Rattle.laws.proofs.Below.{anyBelow-none, anyBelow-more, anyBelow-says, anyBelow-same}
 use Rattle.laws.proofs.Order.{le-or-lt}
 use Rattle.cutting.specs.Points.{Sum, one, more}
-use Rattle.points.specs.Marks.{Size, makes, someMakes, reachesUpTo, reaches}
+use Rattle.points.specs.Inner.{Size, makes, someMakes, reachesUpTo, reaches}
 
 -- A smaller size asks for what it leaves of c, and any other is c or makes nothing.
 pub makes-smaller : (made : ℕ → Bool) (s c : ℕ) → s < c → makes made s c ≡ made (c - s)

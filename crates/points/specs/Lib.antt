@@ -1,3 +1,2 @@
 -- The points of P and Q as tests that compute, and the row of marks that the code finds.
-pub mod Marks
-pub mod Rows
+pub mod Inner

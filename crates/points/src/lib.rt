@@ -1,10 +1,10 @@
 // The points of P and Q as rows of marks. One function serves both: widths with the stock's width, heights with its height.
 ghost use mathlib.Core.Path.{_≡_};
-ghost use mathlib.Core.Bool.{Bool, false};
-ghost use Prim.Native.Nat.{ℕ, _≤_, _<_};
+ghost use mathlib.Core.Bool.{false};
+ghost use Prim.Native.Nat.{_≤_, _<_};
 ghost use lib.ListN.{getD};
 ghost use Rattle.cutting.specs.Limits.{sideMax, piecesMax};
-ghost use Rattle.points.specs.Marks.{makes, someMakes, marksOf};
+ghost use Rattle.points.specs.Inner.{makes, someMakes, marksOf};
 
 // One mark for each number that a stock's side can be, and one for zero, which is never set.
 pub const MARK_COUNT: usize = 241;

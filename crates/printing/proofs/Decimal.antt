@@ -1,14 +1,16 @@
 -- Decimal numbers by their own equations.
-use Prim.Native.Nat.{ℕ, zero, suc, _+_, _/_, _%_, _≤_, _<_}
-use mathlib.Core.Bool.{Bool, true, false, cond}
-use mathlib.Core.Path.{_≡_, refl, sym, ap, _∙_}
+use Prim.Native.Nat.{ℕ, zero, suc, _+_, _/_, _%_, _^_, _≤_, _<_}
+use mathlib.Core.Bool.{Bool, cond}
+use mathlib.Core.Path.{_≡_, sym, ap, _∙_}
 use mathlib.Core.Logic.{⊎-elim}
 use mathlib.Core.List.{List, [], _∷_, _++_}
 use native.Mathlib.Omega.{arith}
+use native.Mathlib.Nat.{pow-suc}
 use lib.Dec.{ltb}
+use lib.ListN.{length, length-append}
 use borrow.Author.Tests.{lt-ltb, le-ltb}
 use Rattle.laws.proofs.Order.{le-or-lt}
-use Rattle.printing.specs.Printed.{Printed}
+use Rattle.printing.specs.Inner.{Printed}
 use Rattle.printing.specs.Decimal.{digit, decimalWithin, decimal}
 use Rattle.printing.proofs.Printed.{printed-as, printed-both}
 
@@ -37,6 +39,18 @@ decimal-one n h = within-one n n h
 pub decimal-more : (n : ℕ) → 10 ≤ n → decimal n ≡ decimal (n / 10) ++ (digit (n % 10) ∷ [])
 unfolding decimal
 decimal-more n h = within-more n n h ∙ ap (λ (l : List ℕ). l ++ (digit (n % 10) ∷ [])) (enough n (suc (n / 10)) (n / 10) (omega arith) (omega arith))
+
+pub decimal-own : (n : ℕ) → decimal n ≡ cond (ltb n 10) (digit n ∷ []) (decimal (n / 10) ++ (digit (n % 10) ∷ []))
+decimal-own n = ⊎-elim (λ h. rw (le-ltb n 10 h) (decimal-more n h)) (λ h. rw (lt-ltb n 10 h) (decimal-one n h)) (le-or-lt 10 n)
+
+-- A number below 10 has one digit, and one below ten times as much at most one more.
+pub decimal-length : (k n : ℕ) → n < 10 ^ suc k → length (decimal n) ≤ suc k
+decimal-length zero n h = omega (arith, ap length (decimal-one n h))
+decimal-length (suc k) n h =
+    let tenth : length (decimal (n / 10)) ≤ suc k = decimal-length k (n / 10) (omega (arith, pow-suc 10 (suc k))) in
+    ⊎-elim (λ m. omega (arith, ap length (decimal-more n m), length-append (decimal (n / 10)) (digit (n % 10) ∷ [])))
+    (λ m. omega (arith, ap length (decimal-one n m)))
+    (le-or-lt 10 n)
 
 -- A number written: its only digit, or the digits of a tenth and one more behind them.
 pub printed-digit : {o p : List ℕ} {at n : ℕ} {d : ℕ} (k : ℕ) → k < 10 → d ≡ digit k → Printed o at (d ∷ []) n p → Printed o at (decimal k) n p

@@ -1,17 +1,16 @@
 -- One part written behind another: both are written, as far as there is room.
-use Prim.Native.Nat.{ℕ, suc, _+_, _-_, _≤_, _<_}
+use Prim.Native.Nat.{ℕ, _+_, _-_, _≤_, _<_}
 use mathlib.Core.Path.{_≡_, refl, sym, ap, ap₂, _∙_, subst}
 use mathlib.Core.Logic.{⊎-elim}
 use mathlib.Core.List.{List, [], _∷_, _++_}
 use native.Mathlib.Omega.{arith}
-use native.Mathlib.Nat.{add-zero}
 use native.Mathlib.Numerals.{add-one}
 use lib.ListN.{length, take, getD, set, length-append, length-take}
-use lib.Seq.{length-take-le, take-all, take-append-le, take-append-add, take-suc}
+use lib.Seq.{take-all, take-append-le, take-append-add, take-suc}
 use Rattle.laws.specs.Put.{put}
 use Rattle.laws.proofs.Order.{le-or-lt}
 use Rattle.laws.proofs.Put.{put-length, put-one, put-none, put-put}
-use Rattle.printing.specs.Printed.{fitting, Printed}
+use Rattle.printing.specs.Inner.{fitting, Printed}
 
 -- What fits, by cases.
 fits-all : (o : List ℕ) (at : ℕ) (e : List ℕ) → length e ≤ length o - at → fitting o at e ≡ e
@@ -118,6 +117,8 @@ printed-more word i h v w = printed-as (rw add-one (sym (take-suc word i 0 h))) 
 pub printed-whole : {o p : List ℕ} {at n : ℕ} (word : List ℕ) (i : ℕ) → length word ≤ i → Printed o at (take i word) n p → Printed o at word n p
 printed-whole word i h w = printed-as (take-all i word h) w
 
--- The place after it lies in the row.
-pub printed-within : {o p : List ℕ} {n : ℕ} {e : List ℕ} → Printed o 0 e n p → n ≤ length p
-printed-within {o} {p} {n} {e} w = omega (arith, w .place, fits-length o 0 e, printed-length w)
+-- With room enough all of it is written.
+pub printed-put : {o p : List ℕ} {at n : ℕ} {e : List ℕ} → at + length e ≤ length o → Printed o at e n p → (n ≡ at + length e) × (p ≡ put o at e)
+printed-put {o} {at = at} {e = e} h w =
+    let all = fits-all o at e (omega arith) in
+    (w .place ∙ ap (λ (l : List ℕ). at + length l) all, w .bytes ∙ ap (put o at) all)

@@ -2,7 +2,7 @@
 ghost use mathlib.Core.Path.{_≡_};
 ghost use mathlib.Core.List.{[], _∷_};
 ghost use Prim.Native.Nat.{_+_, _<_};
-ghost use Rattle.printing.specs.Printed.{Printed};
+ghost use Rattle.printing.specs.Inner.{Printed};
 ghost use Rattle.printing.specs.Decimal.{digit, decimal};
 
 // Writes one byte, and answers the place after it.

@@ -1,6 +1,6 @@
 -- Pieces added one by one, as the code goes.
 use Prim.Native.Nat.{ℕ, suc, _+_}
-use mathlib.Core.Path.{_≡_, refl, sym, ap, _∙_}
+use mathlib.Core.Path.{_≡_, _∙_}
 use mathlib.Core.List.{List}
 use native.Mathlib.Numerals.{add-one}
 use lib.ListN.{getD}
@@ -8,7 +8,7 @@ use Rattle.job.specs.declared.Piece.{Piece as Record}
 use Rattle.job.specs.declared.Job.{Job}
 use Rattle.job.specs.Job.{noRecord}
 use Rattle.desk.specs.declared.Changed.{Changed}
-use Rattle.desk.specs.Changing.{opened, openedCells}
+use Rattle.desk.specs.Inner.{opened, openedCells}
 use Rattle.program.specs.Entry.{addedTo, addedToCells, addedAll, entered}
 
 module _ (start : Changed) (t : List ℕ) (pieces : List Record) (k : ℕ) {answer after : Changed} {cells rest : List ℕ} (e : answer ≡ addedAll start t pieces k .answer) (f : cells ≡ addedAll start t pieces k .cells) where

@@ -1,22 +1,20 @@
 -- The listing of the whole stock, with the code's rows, marks and sides.
-use Prim.Native.Nat.{ℕ, _≤_}
+use Prim.Native.Nat.{ℕ}
 use mathlib.Core.Bool.{true}
-use mathlib.Core.Path.{_≡_, refl, sym, ap, _∙_, subst}
+use mathlib.Core.Path.{_≡_, sym, _∙_, subst}
 use mathlib.Core.List.{List}
 use native.Mathlib.Omega.{arith}
-use Rattle.cutting.specs.Piece.{Piece, Lays, InRange, Inside}
+use Rattle.cutting.specs.Piece.{Piece, Lays, InRange}
 use Rattle.cells.specs.Cells.{cellOf}
-use Rattle.points.specs.Rows.{Rows}
+use Rattle.points.specs.Inner.{Rows}
 use Rattle.job.specs.declared.Job.{Job}
 use Rattle.job.specs.Job.{piecesOf}
-use Rattle.tracer.specs.Choice.{by}
-use Rattle.tracer.specs.Traced.{traces, Ready}
-use Rattle.tracer.specs.declared.Sides.{Sides}
-use Rattle.desk.specs.Asking.{jobRows}
-use Rattle.plan.specs.File.{tracesFor}
+use Rattle.tracer.specs.Inner.{by, traces, Ready}
+use Rattle.desk.specs.Inner.{jobRows}
+use Rattle.plan.specs.Inner.{tracesFor}
 use Rattle.plan.specs.Refusals.{Readable}
 use Rattle.plan.proofs.Tracing.{trace-ready}
-use Rattle.listing.specs.Listing.{listing, treeText, Listable}
+use Rattle.listing.specs.Inner.{treeText, Listable}
 use Rattle.program.specs.Program.{treeLines}
 
 module _ (job : Job) (t : List ℕ) {a b : ℕ} (e : a ≡ job .width) (f : b ≡ job .height) where

@@ -1,10 +1,10 @@
 -- What is printed for each answer, as the code goes.
 use Prim.Native.Nat.{ℕ, zero, suc, _≤_}
 use mathlib.Core.Bool.{Bool, true, false, cond, not}
-use mathlib.Core.Path.{_≡_, refl, sym, ap, ap₂, _∙_}
-use mathlib.Core.List.{List, []}
+use mathlib.Core.Path.{_≡_, refl, sym, ap, _∙_}
+use mathlib.Core.List.{List}
 use native.Mathlib.Omega.{arith}
-use lib.ListN.{length}
+use lib.ListN.{length, replicate, length-replicate}
 use Rattle.laws.proofs.Tests.{not-true, not-false}
 use Rattle.laws.proofs.ByIndex.{byIndex-length}
 use Rattle.cutting.specs.Limits.{piecesMax}
@@ -13,22 +13,22 @@ use Rattle.cells.specs.Box.{isEmpty, countInBox}
 use Rattle.job.specs.declared.Job.{Job}
 use Rattle.job.specs.declared.Blocked.{Blocked}
 use Rattle.job.specs.Job.{jobOf, zeroJob}
-use Rattle.job.specs.Block.{blockShape, BlockShape, jobIn, fromBlock, countIn, pieceIn}
+use Rattle.job.specs.Block.{BlockShape, jobIn, countIn, pieceIn}
+use Rattle.job.specs.Inner.{blockShape, fromBlock}
 use Rattle.job.proofs.Blocks.{shape-says}
 use Rattle.desk.specs.declared.Changed.{Changed}
 use Rattle.desk.specs.declared.Asked.{Asked}
 use Rattle.desk.specs.declared.Asked.the-variants.{Answered, Refused}
-use Rattle.desk.specs.Refusals.{accepted, askRefused}
-use Rattle.desk.specs.Asking.{asked, askedCells, filledFor, answerWith}
+use Rattle.desk.specs.Inner.{accepted, askRefused, asked, askedCells, filledFor, answerWith}
 use Rattle.plan.specs.declared.Planned.{Planned}
 use Rattle.plan.specs.declared.Planned.the-variants.{Written, Refused as NoPlan}
-use Rattle.plan.specs.File.{tracesFor, planFile}
-use Rattle.plan.specs.Refusals.{planRefused, Readable}
-use Rattle.plan.specs.Planning.{planned, answerWith as planWith}
+use Rattle.plan.specs.Inner.{tracesFor, planFile, planRefused, planned, answerWith as planWith, Ready}
+use Rattle.plan.specs.Refusals.{Readable}
 use Rattle.plan.proofs.Exactly.{plan-granted}
 use Rattle.listing.specs.Line.{refusedText}
 use Rattle.program.specs.Entry.{entered}
-use Rattle.program.specs.Program.{textOr, planText, plannedText, askedText, enteredText, jobText, programText}
+use Rattle.program.specs.Sizes.{planRoom}
+use Rattle.program.specs.Program.{textOr, planText, plannedText, askedText, enteredText, newTable, jobText, programText}
 
 -- A refusal, or the text.
 pub or-refused : (n : ℕ) (text : List ℕ) → (n ≡ 0 → ⊥) → refusedText n ≡ textOr n text
@@ -40,6 +40,10 @@ pub or-text : {n : ℕ} (text : List ℕ) → n ≡ 0 → text ≡ textOr n text
 unfolding textOr
 or-text text e = ap (λ (n : ℕ). textOr n text) (sym e)
 
+-- What an accepted plan may count on, with a buffer that has this room.
+pub plan-with : (job : Job) (t : List ℕ) (x y room : ℕ) → planRefused job t x y room ≡ 0 → Ready job t x y (replicate room 0)
+plan-with job t x y room e = plan-granted job t x y (replicate room 0) (ap (planRefused job t x y) (sym (length-replicate room 0))) e
+
 -- The answers of plan.
 plan-no : (n length value k : ℕ) (text : List ℕ) → planWith n length value ≡ NoPlan k → refusedText k ≡ textOr n text
 unfolding textOr
@@ -50,23 +54,23 @@ plan-yes : (n length value : ℕ) {l v : ℕ} → planWith n length value ≡ Wr
 plan-yes zero length value e = refl
 plan-yes (suc j) length value e = let z : _≡_ {A = ℕ} 0 1 = cc in absurd (omega arith)
 
-module _ (job : Job) (t o : List ℕ) {x y : ℕ} {r : Planned} (f : x ≡ job .width) (g : y ≡ job .height) (e : r ≡ planned job t x y (length o)) where
-  whole-plan : r ≡ planned job t (job .width) (job .height) (length o)
-  whole-plan = e ∙ (λ i. planned job t (f i) (g i) (length o))
+module _ (job : Job) (t : List ℕ) {x y room : ℕ} {r : Planned} (f : x ≡ job .width) (g : y ≡ job .height) (e : r ≡ planned job t x y room) (m : room ≡ planRoom) where
+  whole-plan : r ≡ planned job t (job .width) (job .height) planRoom
+  whole-plan = e ∙ (λ i. planned job t (f i) (g i) (m i))
 
-  pub plan-refused-text : {k n : ℕ} (value worked : ℕ) → r ≡ NoPlan k → n ≡ k → refusedText n ≡ plannedText job t (length o) value worked
+  pub plan-refused-text : {k n : ℕ} (value worked : ℕ) → r ≡ NoPlan k → n ≡ k → refusedText n ≡ plannedText job t value worked
   unfolding planned plannedText
   plan-refused-text value worked h i =
-      ap refusedText i ∙ plan-no (planRefused job t (job .width) (job .height) (length o)) (length (planFile job t (job .width) (job .height))) (cellOf (job .width) t (job .width) (job .height)) _ (planText job t value worked) (sym whole-plan ∙ h)
+      ap refusedText i ∙ plan-no (planRefused job t (job .width) (job .height) planRoom) (length (planFile job t (job .width) (job .height))) (cellOf (job .width) t (job .width) (job .height)) _ (planText job t value worked) (sym whole-plan ∙ h)
 
-  granted : {l v : ℕ} → r ≡ Written l v → 0 ≡ planRefused job t (job .width) (job .height) (length o)
+  granted : {l v : ℕ} → r ≡ Written l v → 0 ≡ planRefused job t (job .width) (job .height) planRoom
   unfolding planned
-  granted h = plan-yes (planRefused job t (job .width) (job .height) (length o)) (length (planFile job t (job .width) (job .height))) (cellOf (job .width) t (job .width) (job .height)) (sym whole-plan ∙ h)
+  granted h = plan-yes (planRefused job t (job .width) (job .height) planRoom) (length (planFile job t (job .width) (job .height))) (cellOf (job .width) t (job .width) (job .height)) (sym whole-plan ∙ h)
 
   pub plan-written : {l v : ℕ} → r ≡ Written l v → Readable job t (job .width) (job .height) × (tracesFor job t (job .width) (job .height) ≡ true)
-  plan-written h = let k = plan-granted job t (job .width) (job .height) o (granted h) refl in (k .readable, k .traces)
+  plan-written h = let k = plan-with job t (job .width) (job .height) planRoom (sym (granted h)) in (k .readable, k .traces)
 
-  pub plan-written-text : {l v : ℕ} (value worked : ℕ) → r ≡ Written l v → planText job t value worked ≡ plannedText job t (length o) value worked
+  pub plan-written-text : {l v : ℕ} (value worked : ℕ) → r ≡ Written l v → planText job t value worked ≡ plannedText job t value worked
   unfolding plannedText
   plan-written-text value worked h = or-text (planText job t value worked) (sym (granted h))
 
@@ -76,36 +80,36 @@ unfolding textOr
 ask-no zero value worked k text e = let z : _≡_ {A = ℕ} 0 1 = cc in absurd (omega arith)
 ask-no (suc j) value worked k text e = let z : k ≡ suc j = cc in ap refusedText z
 
-ask-yes : (n value worked : ℕ) (job : Job) (room : ℕ) {v w : ℕ} (filled t : List ℕ) {after : List ℕ} → answerWith n value worked ≡ Answered v w → after ≡ accepted n filled t → plannedText job after room v w ≡ textOr n (plannedText job filled room value worked)
+ask-yes : (n value worked : ℕ) (job : Job) {v w : ℕ} (filled t : List ℕ) {after : List ℕ} → answerWith n value worked ≡ Answered v w → after ≡ accepted n filled t → plannedText job after v w ≡ textOr n (plannedText job filled value worked)
 unfolding textOr accepted
-ask-yes zero value worked job room {v} {w} filled t e f =
+ask-yes zero value worked job {v} {w} filled t e f =
     let g : v ≡ value = cc in
     let h : w ≡ worked = cc in
-    λ i. plannedText job (f i) room (g i) (h i)
-ask-yes (suc j) value worked job room filled t e f = let z : _≡_ {A = ℕ} 0 1 = cc in absurd (omega arith)
+    λ i. plannedText job (f i) (g i) (h i)
+ask-yes (suc j) value worked job filled t e f = let z : _≡_ {A = ℕ} 0 1 = cc in absurd (omega arith)
 
-module _ (job : Job) (t : List ℕ) (room : ℕ) {x y : ℕ} {r : Asked} (f : x ≡ job .width) (g : y ≡ job .height) (e : r ≡ asked job t x y) where
+module _ (job : Job) (t : List ℕ) {x y : ℕ} {r : Asked} (f : x ≡ job .width) (g : y ≡ job .height) (e : r ≡ asked job t x y) where
   whole-ask : r ≡ asked job t (job .width) (job .height)
   whole-ask = e ∙ (λ i. asked job t (f i) (g i))
 
-  pub ask-refused-text : {k n : ℕ} → r ≡ Refused k → n ≡ k → refusedText n ≡ askedText job t room
+  pub ask-refused-text : {k n : ℕ} → r ≡ Refused k → n ≡ k → refusedText n ≡ askedText job t
   unfolding asked askedText
   ask-refused-text h i = ap refusedText i ∙ ask-no (askRefused job t (job .width) (job .height)) (cellOf (job .width) (filledFor job t (job .width) (job .height)) (job .width) (job .height)) (countInBox (job .width) (job .height) (isEmpty (job .width) t)) _ _ (sym whole-ask ∙ h)
 
-  pub ask-answered-text : {v w : ℕ} {after : List ℕ} → r ≡ Answered v w → after ≡ askedCells job t x y → plannedText job after room v w ≡ askedText job t room
+  pub ask-answered-text : {v w : ℕ} {after : List ℕ} → r ≡ Answered v w → after ≡ askedCells job t x y → plannedText job after v w ≡ askedText job t
   unfolding asked askedText askedCells
   ask-answered-text h k =
-      ask-yes (askRefused job t (job .width) (job .height)) (cellOf (job .width) (filledFor job t (job .width) (job .height)) (job .width) (job .height)) (countInBox (job .width) (job .height) (isEmpty (job .width) t)) job room (filledFor job t (job .width) (job .height)) t (sym whole-ask ∙ h) (k ∙ (λ i. askedCells job t (f i) (g i)))
+      ask-yes (askRefused job t (job .width) (job .height)) (cellOf (job .width) (filledFor job t (job .width) (job .height)) (job .width) (job .height)) (countInBox (job .width) (job .height) (isEmpty (job .width) t)) job (filledFor job t (job .width) (job .height)) t (sym whole-ask ∙ h) (k ∙ (λ i. askedCells job t (f i) (g i)))
 
 -- The job as it was entered.
-module _ (answer : Changed) (t : List ℕ) (room : ℕ) where
-  pub entered-refused-text : {n : ℕ} → (answer .refusal ≡ 0 → ⊥) → n ≡ answer .refusal → refusedText n ≡ enteredText answer t room
+module _ (answer : Changed) (t : List ℕ) where
+  pub entered-refused-text : {n : ℕ} → (answer .refusal ≡ 0 → ⊥) → n ≡ answer .refusal → refusedText n ≡ enteredText answer t
   unfolding enteredText
-  entered-refused-text h e = ap refusedText e ∙ or-refused (answer .refusal) (askedText (answer .job) t room) h
+  entered-refused-text h e = ap refusedText e ∙ or-refused (answer .refusal) (askedText (answer .job) t) h
 
-  pub entered-text : answer .refusal ≡ 0 → askedText (answer .job) t room ≡ enteredText answer t room
+  pub entered-text : answer .refusal ≡ 0 → askedText (answer .job) t ≡ enteredText answer t
   unfolding enteredText
-  entered-text e = or-text (askedText (answer .job) t room) e
+  entered-text e = or-text (askedText (answer .job) t) e
 
 -- The block.
 pub few-pieces : (s : List ℕ) → fromBlock s .job .count ≤ piecesMax
@@ -119,20 +123,23 @@ few-pieces s = go (blockShape s) (shape-says s .means)
 pub block-few : {blocked : Blocked} (s : List ℕ) → blocked ≡ fromBlock s → blocked .job .count ≤ piecesMax
 block-few s e = omega (arith, few-pieces s, ap (λ (b : Blocked). b .job .count) e)
 
-module _ (s t : List ℕ) (room : ℕ) {blocked : Blocked} (e : blocked ≡ fromBlock s) where
+module _ (s : List ℕ) {blocked : Blocked} (e : blocked ≡ fromBlock s) where
   abbrev choice : Blocked → List ℕ
-  choice b = cond (b .ok) (jobText (b .job) t room) (refusedText 1)
+  choice b = cond (b .ok) (jobText (b .job)) (refusedText 1)
 
   choice-no : blocked .ok ≡ false → refusedText 1 ≡ choice blocked
-  choice-no h = sym (ap (λ (b : Bool). cond b (jobText (blocked .job) t room) (refusedText 1)) h)
+  choice-no h = sym (ap (λ (b : Bool). cond b (jobText (blocked .job)) (refusedText 1)) h)
 
-  choice-yes : blocked .ok ≡ true → jobText (blocked .job) t room ≡ choice blocked
-  choice-yes h = sym (ap (λ (b : Bool). cond b (jobText (blocked .job) t room) (refusedText 1)) h)
+  choice-yes : blocked .ok ≡ true → jobText (blocked .job) ≡ choice blocked
+  choice-yes h = sym (ap (λ (b : Bool). cond b (jobText (blocked .job)) (refusedText 1)) h)
 
-  pub block-refused-text : {n : ℕ} → not (blocked .ok) ≡ true → n ≡ 1 → refusedText n ≡ programText s t room
+  pub block-refused-text : {n : ℕ} → not (blocked .ok) ≡ true → n ≡ 1 → refusedText n ≡ programText s
   unfolding programText
   block-refused-text h i = ap refusedText i ∙ (choice-no (not-true h) ∙ ap choice e)
 
-  pub block-text : {answer : Changed} {cells : List ℕ} → not (blocked .ok) ≡ false → answer ≡ entered (blocked .job) t .answer → cells ≡ entered (blocked .job) t .cells → enteredText answer cells room ≡ programText s t room
+  pub block-text : {answer : Changed} {t cells : List ℕ} → not (blocked .ok) ≡ false → answer ≡ entered (blocked .job) t .answer → cells ≡ entered (blocked .job) t .cells → t ≡ newTable → enteredText answer cells ≡ programText s
   unfolding programText jobText
-  block-text h f g = (λ i. enteredText (f i) (g i) room) ∙ (choice-yes (not-false h) ∙ ap choice e)
+  block-text h f g z =
+      let answer = f ∙ (λ i. entered (blocked .job) (z i) .answer) in
+      let cells = g ∙ (λ i. entered (blocked .job) (z i) .cells) in
+      (λ i. enteredText (answer i) (cells i)) ∙ (choice-yes (not-false h) ∙ ap choice e)

@@ -6,8 +6,7 @@ use Rattle.job.specs.declared.Piece.{Piece as Record}
 use Rattle.job.specs.declared.Job.{Job}
 use Rattle.job.specs.Job.{noRecord}
 use Rattle.desk.specs.declared.Changed.{Changed}
-use Rattle.desk.specs.Refusals.{accepted}
-use Rattle.desk.specs.Changing.{opened, openedCells, addedJob, addedCells}
+use Rattle.desk.specs.Inner.{accepted, opened, openedCells, addedJob, addedCells}
 
 -- What stands after a call: its answer and the cells.
 pub record Stand : Type 0 where

@@ -2,18 +2,19 @@
 use Prim.Native.Nat.{ℕ, zero, suc}
 use mathlib.Core.Bool.{cond}
 use mathlib.Core.List.{List, _++_}
+use lib.ListN.{replicate}
 use Rattle.cells.specs.Cells.{cellOf}
 use Rattle.cells.specs.Box.{isEmpty, countInBox}
 use Rattle.job.specs.declared.Job.{Job}
 use Rattle.job.specs.Job.{piecesOf}
-use Rattle.job.specs.Block.{fromBlock}
+use Rattle.job.specs.Inner.{fromBlock}
 use Rattle.desk.specs.declared.Changed.{Changed}
-use Rattle.desk.specs.Refusals.{jobRefusal, askRefused}
-use Rattle.desk.specs.Asking.{filledFor}
-use Rattle.plan.specs.File.{treeFor}
-use Rattle.plan.specs.Refusals.{planRefused}
+use Rattle.desk.specs.Refusals.{badJob}
+use Rattle.desk.specs.Inner.{askRefused, filledFor}
+use Rattle.plan.specs.Inner.{treeFor, planRefused}
 use Rattle.listing.specs.Line.{headText, refusedText}
 use Rattle.listing.specs.Listing.{listing}
+use Rattle.program.specs.Sizes.{tableCells, planRoom}
 use Rattle.program.specs.Entry.{entered}
 
 -- "A refusal prints only "refused", a space and the number."
@@ -29,25 +30,29 @@ treeLines job t = listing (piecesOf job) 1 (treeFor job t (job .width) (job .hei
 unfoldable pub planText : Job → List ℕ → ℕ → ℕ → List ℕ
 planText job t value worked = headText value worked ++ treeLines job t
 
--- "plans the whole stock", into a buffer with this room.
-unfoldable pub plannedText : Job → List ℕ → ℕ → ℕ → ℕ → List ℕ
-plannedText job t room value worked = textOr (planRefused job t (job .width) (job .height) room) (planText job t value worked)
+-- "plans the whole stock", into the plan buffer.
+unfoldable pub plannedText : Job → List ℕ → ℕ → ℕ → List ℕ
+plannedText job t value worked = textOr (planRefused job t (job .width) (job .height) planRoom) (planText job t value worked)
 
 -- "asks .. the whole stock"
-unfoldable pub askedText : Job → List ℕ → ℕ → List ℕ
-askedText job t room =
+unfoldable pub askedText : Job → List ℕ → List ℕ
+askedText job t =
     let a = job .width in
     let b = job .height in
     let after = filledFor job t a b in
-    textOr (askRefused job t a b) (plannedText job after room (cellOf a after a b) (countInBox a b (isEmpty a t)))
+    textOr (askRefused job t a b) (plannedText job after (cellOf a after a b) (countInBox a b (isEmpty a t)))
 
 -- "adds its pieces"
-unfoldable pub enteredText : Changed → List ℕ → ℕ → List ℕ
-enteredText answer t room = textOr (answer .refusal) (askedText (answer .job) t room)
+unfoldable pub enteredText : Changed → List ℕ → List ℕ
+enteredText answer t = textOr (answer .refusal) (askedText (answer .job) t)
 
-unfoldable pub jobText : Job → List ℕ → ℕ → List ℕ
-jobText from t room = enteredText (entered from t .answer) (entered from t .cells) room
+-- The table before the opening.
+unfoldable pub newTable : List ℕ
+newTable = replicate tableCells 0
+
+unfoldable pub jobText : Job → List ℕ
+jobText from = enteredText (entered from newTable .answer) (entered from newTable .cells)
 
 -- "A block shorter than 6 bytes, or whose length isn't 6 + 6n, or whose n is above 64, counts as refusal 1, in the program too."
-unfoldable pub programText : List ℕ → List ℕ → ℕ → List ℕ
-programText block t room = cond (fromBlock block .ok) (jobText (fromBlock block .job) t room) (refusedText jobRefusal)
+unfoldable pub programText : List ℕ → List ℕ
+programText block = cond (fromBlock block .ok) (jobText (fromBlock block .job)) (refusedText badJob)

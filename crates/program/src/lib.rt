@@ -1,25 +1,31 @@
 // The program's work: a job block in, the listing of its stock's plan out, or the line of a refusal.
 // entry.rt: the block's pieces, added one by one; whole.rt: the stock asked, planned and printed.
-ghost use Prim.Native.Nat.{ℕ};
-ghost use lib.ListN.{length};
-ghost use Rattle.printing.specs.Printed.{Printed};
-ghost use Rattle.program.specs.Program.{programText};
+ghost use Rattle.program.specs.Promise.{ProgramPromise};
 use desk::refusal;
 use job::block::from_block;
 use listing::line::put_refused;
 
-pub mod entry;
-pub mod whole;
+mod entry;
+mod whole;
 
-// Writes the text into a lent row, as far as there is room, and answers its length.
-pub fn run(block: &[u8], cells: &mut [u32], file: &mut [u8], text: &mut [u8]) -> usize
-    ensures { λ r. ⌜ Printed (now (text .entry)) 0 (programText (now (block .entry)) (now (cells .entry)) (length (now (file .entry)))) r (now (text .exit)) ⌝ }
+// The sizes of the table and of the plan buffer.
+const CELLS: usize = 16_384;
+
+const PLAN: usize = 32_768;
+
+// The size of the text buffer, in which every text has room.
+pub const TEXT: usize = 414_805;
+
+// Writes the text at the start of a lent row, and answers its length.
+pub fn run(block: &[u8], text: &mut [u8; TEXT]) -> usize
+    ensures { λ r. ⌜ ProgramPromise (now (block .entry)) (now (text .entry)) r (now (text .exit)) ⌝ }
 {
     let blocked = from_block(block);
     if !blocked.ok {
         return put_refused(text, 0, entry::widened(refusal::JOB));
     }
     let from = blocked.job;
-    let entered = entry::enter(from, cells);
-    whole::print_entered(entered, cells, file, text)
+    let mut cells = [0; CELLS];
+    let entered = entry::enter(from, &mut cells);
+    whole::print_entered(entered, &mut cells, text)
 }

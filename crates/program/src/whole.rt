@@ -1,11 +1,11 @@
 // The whole stock: asked, planned and printed.
 ghost use mathlib.Core.Path.{_≡_};
-ghost use lib.ListN.{length};
 ghost use mathlib.Core.Bool.{true};
 ghost use Rattle.plan.specs.Refusals.{Readable};
-ghost use Rattle.plan.specs.File.{tracesFor};
-ghost use Rattle.printing.specs.Printed.{Printed};
+ghost use Rattle.plan.specs.Inner.{tracesFor};
+ghost use Rattle.printing.specs.Inner.{Printed};
 ghost use Rattle.program.specs.Program.{treeLines, planText, plannedText, askedText, enteredText};
+use crate::PLAN;
 use crate::entry::cast;
 use crate::entry::widened;
 use desk::Asked;
@@ -68,17 +68,11 @@ fn print_plan(job: Job, cells: &[u32], text: &mut [u8], value: u32, worked: u32)
 }
 
 // Plans the stock of a job that was asked with this answer.
-fn print_asked(
-    job: Job,
-    cells: &[u32],
-    file: &mut [u8],
-    text: &mut [u8],
-    value: u32,
-    worked: u32,
-) -> usize
-    ensures { λ r. ⌜ Printed (now (text .entry)) 0 (plannedText job (now (cells .entry)) (length (now (file .entry))) value worked) r (now (text .exit)) ⌝ }
+fn print_asked(job: Job, cells: &[u32], text: &mut [u8], value: u32, worked: u32) -> usize
+    ensures { λ r. ⌜ Printed (now (text .entry)) 0 (plannedText job (now (cells .entry)) value worked) r (now (text .exit)) ⌝ }
 {
-    let answer = plan::plan(job, cells, cast(job.width), cast(job.height), file);
+    let mut file = [0; PLAN];
+    let answer = plan::plan(job, cells, cast(job.width), cast(job.height), &mut file);
     match answer {
         Planned::Refused(number) => put_refused(text, 0, widened(number)),
         Planned::Written(_, _) => print_plan(job, cells, text, value, worked),
@@ -86,23 +80,23 @@ fn print_asked(
 }
 
 // Asks the stock of a job.
-fn print_job(job: Job, cells: &mut [u32], file: &mut [u8], text: &mut [u8]) -> usize
-    ensures { λ r. ⌜ Printed (now (text .entry)) 0 (askedText job (now (cells .entry)) (length (now (file .entry)))) r (now (text .exit)) ⌝ }
+fn print_job(job: Job, cells: &mut [u32], text: &mut [u8]) -> usize
+    ensures { λ r. ⌜ Printed (now (text .entry)) 0 (askedText job (now (cells .entry))) r (now (text .exit)) ⌝ }
 {
     let answer = question::ask(job, cells, cast(job.width), cast(job.height));
     match answer {
         Asked::Refused(number) => put_refused(text, 0, widened(number)),
-        Asked::Answered(value, worked) => print_asked(job, cells, file, text, value, worked),
+        Asked::Answered(value, worked) => print_asked(job, cells, text, value, worked),
     }
 }
 
 // The job as it was entered, unless that was refused.
-pub fn print_entered(entered: Changed, cells: &mut [u32], file: &mut [u8], text: &mut [u8]) -> usize
-    ensures { λ r. ⌜ Printed (now (text .entry)) 0 (enteredText entered (now (cells .entry)) (length (now (file .entry)))) r (now (text .exit)) ⌝ }
+pub fn print_entered(entered: Changed, cells: &mut [u32], text: &mut [u8]) -> usize
+    ensures { λ r. ⌜ Printed (now (text .entry)) 0 (enteredText entered (now (cells .entry))) r (now (text .exit)) ⌝ }
 {
     if entered.refusal != 0 {
         return put_refused(text, 0, widened(entered.refusal));
     }
     let job = entered.job;
-    print_job(job, cells, file, text)
+    print_job(job, cells, text)
 }

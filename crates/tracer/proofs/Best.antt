@@ -1,47 +1,29 @@
 -- On a table of best values rule 6 strikes nowhere, and the tree earns the best value.
-use Prim.Native.Nat.{ℕ, _+_, _-_, _≤_, _<_}
+use Prim.Native.Nat.{ℕ, _+_, _-_, _≤_}
 use mathlib.Core.Bool.{true, _&&_}
 use mathlib.Core.Path.{_≡_, refl, sym, ap, ap₂, _∙_}
 use mathlib.Core.List.{List}
 use native.Mathlib.Omega.{arith}
-use Rattle.cutting.specs.Piece.{Piece, pieceAt, Lays, InRange, Fits, Inside}
+use Rattle.cutting.specs.Piece.{Piece, Lays, InRange, Fits, Inside}
 use Rattle.cutting.specs.Dissection.{Line, Best}
 use Rattle.cutting.specs.Candidate.{Candidate}
 use Rattle.cutting.proofs.Rule.{best-is-worth}
-use Rattle.points.specs.Rows.{Rows}
-use Rattle.tracer.specs.Choice.{sideOf, near, far, numberOf, choose}
-use Rattle.tracer.specs.Chosen.{Fitting}
-use Rattle.tracer.specs.Traced.{tracesBy, traced, traces, HoldsPieces, MarksPoints, Dissects}
+use Rattle.points.specs.Inner.{Rows}
+use Rattle.tracer.specs.Inner.{sideOf, near, far, numberOf, choose, FittingAt, tracesBy, traced, traces, HoldsPieces, MarksPoints, Dissects}
 use Rattle.tracer.specs.declared.Sides.{Sides}
 use Rattle.tracer.specs.declared.Choice.{Choice}
 use Rattle.tracer.proofs.Chosen.{Fact, fact, Unstruck}
 use Rattle.tracer.proofs.Depth.{Real, Part, near-part, far-part, by-parts}
 use Rattle.tracer.proofs.Traced.{within-of, traces-own}
+use Rattle.tracer.proofs.Rows.{row-of}
 use Rattle.tracer.proofs.Valid.{traced-valid}
 
 module _ (pieces : List Piece) (rows : Rows) (cell : ℕ → ℕ → ℕ) (a b : ℕ) (holds : HoldsPieces rows pieces) (marks : MarksPoints rows pieces a b) where
   -- A piece that may lie is among the rows, and fits by its rule.
-  fitting-of : (s : Sides) {p q v : ℕ} → Lays pieces p q v → Fits p q (s .width) (s .height) → numberOf cell s ≡ v → (k : ℕ) × Fitting rows cell s k
-  fitting-of s {p} {q} {v} l f e =
-      (k, record { among = below; fits = record { wide = omega (arith, width, f .wide); high = omega (arith, height, f .high) }; value = value ∙ sym e })
-    where
-      k : ℕ
-      k = l .number - 1
-
-      below : k < rows .count
-      below = omega (arith, l .numbered .first, l .numbered .last, holds .count)
-
-      same : k + 1 ≡ l .number
-      same = omega (arith, l .numbered .first)
-
-      width : rows .width k ≡ p
-      width = sym (holds .piece k below .width) ∙ (ap (λ (i : ℕ). pieceAt pieces i .width) same ∙ l .numbered .width)
-
-      height : rows .height k ≡ q
-      height = sym (holds .piece k below .height) ∙ (ap (λ (i : ℕ). pieceAt pieces i .height) same ∙ l .numbered .height)
-
-      value : rows .value k ≡ v
-      value = sym (holds .piece k below .value) ∙ (ap (λ (i : ℕ). pieceAt pieces i .value) same ∙ l .numbered .value)
+  fitting-of : (s : Sides) {p q v : ℕ} → Lays pieces p q v → Fits p q (s .width) (s .height) → numberOf cell s ≡ v → (k : ℕ) × FittingAt rows cell s k
+  fitting-of s l f e =
+      let row = row-of {k = l .number - 1} holds (omega (arith, l .numbered .first)) (l .numbered) in
+      (l .number - 1, record { among = row .among; fits = omega (arith, row .width, row .height, f); value = row .value ∙ sym e })
 
   -- Where the number in the cell is a candidate, some rule strikes.
   struck : (s : Sides) {v : ℕ} → Candidate (Lays pieces) a b cell (s .width) (s .height) v → numberOf cell s ≡ v → Unstruck rows cell s → ⊥
@@ -49,9 +31,9 @@ module _ (pieces : List Piece) (rows : Rows) (cell : ℕ → ℕ → ℕ) (a b :
   struck s Candidate.nothing e u = u .zero e
   struck s (Candidate.fitting l f) e u = let t = fitting-of s l f e in u .fitting (t .0) (t .1)
   struck s (Candidate.vertical {c = c} {r = r} p h l) e u =
-      u .across c (record { least = l .least; most = h; point = marks .inP c p; sum = ap (λ (k : ℕ). cell c (s .height) + cell k (s .height)) (sym (l .leaves)) ∙ sym e })
+      u .across c (record { least = l .least; most = h; point = marks .inP c (p .within) .found p; sum = ap (λ (k : ℕ). cell c (s .height) + cell k (s .height)) (sym (l .leaves)) ∙ sym e })
   struck s (Candidate.horizontal {d = d} {r = r} p h l) e u =
-      u .up d (record { least = l .least; most = h; point = marks .inQ d p; sum = ap (λ (k : ℕ). cell (s .width) d + cell (s .width) k) (sym (l .leaves)) ∙ sym e })
+      u .up d (record { least = l .least; most = h; point = marks .inQ d (p .within) .found p; sum = ap (λ (k : ℕ). cell (s .width) d + cell (s .width) k) (sym (l .leaves)) ∙ sym e })
 
   -- Where it is so in every cell of a box, rule 6 strikes nowhere in it.
   module _ (x y : ℕ) (candidate : (u w : ℕ) → Inside u w x y → Candidate (Lays pieces) a b cell u w (cell u w)) where

@@ -1,20 +1,20 @@
 -- The choice of a rule is what the rule says: `choose` makes the choice that the rules ask for, and no other is asked for.
-use Prim.Native.Nat.{ℕ, zero, suc, _+_, _-_, _/_, _≤_, _<_}
+use Prim.Native.Nat.{ℕ, zero, suc, _+_, _/_, _≤_, _<_}
 use mathlib.Core.Bool.{Bool, true, false}
 use mathlib.Core.Path.{_≡_, refl, sym, ap, _∙_, subst}
 use native.Mathlib.Omega.{arith}
 use lib.Dec.{leb, ltb}
-use Rattle.laws.specs.Says.{Says}
-use Rattle.laws.specs.First.{firstBelow}
+use Rattle.laws.specs.Inner.{Says, firstBelow}
 use Rattle.laws.proofs.First.{first-before, first-passes, first-within}
 use Rattle.laws.proofs.Says.{says-and, says-eq, says-lt, says-false, says-no}
-use Rattle.cells.specs.Emptied.{fits}
+use Rattle.cells.specs.Inner.{fits}
 use Rattle.cells.proofs.Emptied.{fits-says}
-use Rattle.points.specs.Rows.{Rows}
-use Rattle.tracer.specs.Choice.{across, up, sideOf, near, far, numberOf, suits, firstPiece, addsTo, leastLine, orElse, chooseFor, choose}
-use Rattle.tracer.specs.Chosen.{Least, None, Exact, Fitting, Adds, Chosen}
+use Rattle.points.specs.Inner.{Rows}
+use Rattle.tracer.specs.Inner.{across, up, sideOf, near, far, numberOf, suits, firstPiece, addsTo, leastLine, orElse, chooseFor, choose, ExactAt, FittingAt, AddsAt, Chosen}
+use Rattle.tracer.specs.Rules.{Least, None}
 use Rattle.tracer.specs.declared.Sides.{Sides}
 use Rattle.tracer.specs.declared.Choice.{Choice}
+use Rattle.tracer.proofs.Least.{least-unique}
 
 -- A rule strikes, or the next ones decide.
 pub strikes : (b : Bool) (choice after : Choice) → b ≡ true → choice ≡ orElse b choice after
@@ -38,13 +38,7 @@ decides f n S says below =
       passed = λ e k m. says-false (says k (below k m)) (first-before f n k (omega (arith, below k m, says-false (says-lt (firstBelow f n) n) e, first-within f n))) m;
     }
 
--- There is only one least, and where there is one the test is true.
-least-unique : {S : ℕ → Type 0} {j k : ℕ} → Least S j → Least S k → j ≡ k
-least-unique {j = j} {k = k} l m =
-    let late : j < k → ⊥ = λ h. m .least j h (l .holds) in
-    let early : k < j → ⊥ = λ h. l .least k h (m .holds) in
-    omega arith
-
+-- Where there is a least, the test is true and has found it.
 finds : {S : ℕ → Type 0} {j k : ℕ} (b : Bool) → Decides S k b → Least S j → (b ≡ true) × (j ≡ k)
 finds true d l = (refl, least-unique l (d .struck refl))
 finds false d l = absurd (d .passed refl _ (l .holds))
@@ -54,26 +48,26 @@ misses true d n = absurd (n _ (d .struck refl .holds))
 misses false d n = refl
 
 module _ (rows : Rows) (cell : ℕ → ℕ → ℕ) (s : Sides) where
-  exact-says : (k : ℕ) → k < rows .count → Says (suits true (rows .width k) (rows .height k) (rows .value k) (numberOf cell s) s) (Exact rows cell s k)
+  exact-says : (k : ℕ) → k < rows .count → Says (suits true (rows .width k) (rows .height k) (rows .value k) (numberOf cell s) s) (ExactAt rows cell s k)
   unfolding suits
   exact-says k h =
       let says = says-and (says-eq (rows .value k) (numberOf cell s)) (says-and (says-eq (rows .width k) (s .width)) (says-eq (rows .height k) (s .height))) in
       record { means = λ e. record { among = h; width = says .means e .1 .0; height = says .means e .1 .1; value = says .means e .0 }; found = λ x. says .found (x .value, (x .width, x .height)) }
 
-  fitting-says : (k : ℕ) → k < rows .count → Says (suits false (rows .width k) (rows .height k) (rows .value k) (numberOf cell s) s) (Fitting rows cell s k)
+  fitting-says : (k : ℕ) → k < rows .count → Says (suits false (rows .width k) (rows .height k) (rows .value k) (numberOf cell s) s) (FittingAt rows cell s k)
   unfolding suits
   fitting-says k h =
       let says = says-and (says-eq (rows .value k) (numberOf cell s)) (fits-says (rows .width k) (rows .height k) (s .width) (s .height)) in
       record { means = λ e. record { among = h; fits = says .means e .1; value = says .means e .0 }; found = λ x. says .found (x .value, x .fits) }
 
-  adds-says : (tall : Bool) (marked : ℕ → Bool) (c : ℕ) → 1 ≤ c → c ≤ sideOf tall s / 2 → Says (addsTo tall marked cell (numberOf cell s) s c) (Adds rows cell s tall marked c)
+  adds-says : (tall : Bool) (marked : ℕ → Bool) (c : ℕ) → 1 ≤ c → c ≤ sideOf tall s / 2 → Says (addsTo tall marked cell (numberOf cell s) s c) (AddsAt rows cell s tall marked c)
   unfolding addsTo
   adds-says tall marked c h m =
       let sums = says-eq (numberOf cell (near tall c s) + numberOf cell (far tall c s)) (numberOf cell s) in
       let says = says-and (record { means = λ e. e; found = λ e. e }) sums in
       record { means = λ e. record { least = h; most = m; point = says .means e .0; sum = says .means e .1 }; found = λ x. says .found (x .point, x .sum) }
 
-  line-decides : (tall : Bool) (marked : ℕ → Bool) → Decides (Adds rows cell s tall marked) (leastLine tall marked cell (numberOf cell s) s) (leb (leastLine tall marked cell (numberOf cell s) s) (sideOf tall s / 2))
+  line-decides : (tall : Bool) (marked : ℕ → Bool) → Decides (AddsAt rows cell s tall marked) (leastLine tall marked cell (numberOf cell s) s) (leb (leastLine tall marked cell (numberOf cell s) s) (sideOf tall s / 2))
   unfolding leastLine
   line-decides tall marked =
       record {
@@ -88,21 +82,21 @@ module _ (rows : Rows) (cell : ℕ → ℕ → ℕ) (s : Sides) where
       half = sideOf tall s / 2
 
       S : ℕ → Type 0
-      S i = Adds rows cell s tall marked (suc i)
+      S i = AddsAt rows cell s tall marked (suc i)
 
       shifted : Decides S (firstBelow f half) (ltb (firstBelow f half) half)
       shifted = decides f half S (λ i h. adds-says tall marked (suc i) (omega arith) h) (λ i m. m .most)
 
-      at-least : (k : ℕ) → Adds rows cell s tall marked k → ((i : ℕ) → Adds rows cell s tall marked (suc i) → ⊥) → ⊥
+      at-least : (k : ℕ) → AddsAt rows cell s tall marked k → ((i : ℕ) → AddsAt rows cell s tall marked (suc i) → ⊥) → ⊥
       at-least zero m h = omega (arith, m .least)
       at-least (suc i) m h = h i m
 
-      earlier : Least S (firstBelow f half) → (j : ℕ) → j < suc (firstBelow f half) → Adds rows cell s tall marked j → ⊥
+      earlier : Least S (firstBelow f half) → (j : ℕ) → j < suc (firstBelow f half) → AddsAt rows cell s tall marked j → ⊥
       earlier l zero h m = omega (arith, m .least)
       earlier l (suc i) h m = l .least i (omega arith) m
 
   -- The rules in their order: each strikes where those before it do not.
-  in-order : {exact c d fitting : ℕ} (b₁ b₂ b₃ b₄ b₅ : Bool) → Says b₁ (numberOf cell s ≡ 0) → Decides (Exact rows cell s) exact b₂ → Decides (Adds rows cell s false (rows .inP)) c b₃ → Decides (Adds rows cell s true (rows .inQ)) d b₄ → Decides (Fitting rows cell s) fitting b₅ → Chosen rows cell s (orElse b₁ Choice.Scrap (orElse b₂ (Choice.Piece exact) (orElse b₃ (Choice.Line (across c)) (orElse b₄ (Choice.Line (up d)) (orElse b₅ (Choice.Trim fitting) Choice.Nothing)))))
+  in-order : {exact c d fitting : ℕ} (b₁ b₂ b₃ b₄ b₅ : Bool) → Says b₁ (numberOf cell s ≡ 0) → Decides (ExactAt rows cell s) exact b₂ → Decides (AddsAt rows cell s false (rows .inP)) c b₃ → Decides (AddsAt rows cell s true (rows .inQ)) d b₄ → Decides (FittingAt rows cell s) fitting b₅ → Chosen rows cell s (orElse b₁ Choice.Scrap (orElse b₂ (Choice.Piece exact) (orElse b₃ (Choice.Line (across c)) (orElse b₄ (Choice.Line (up d)) (orElse b₅ (Choice.Trim fitting) Choice.Nothing)))))
   unfolding orElse
   in-order true b₂ b₃ b₄ b₅ z e p q f = Chosen.rule1 (z .means refl)
   in-order false true b₃ b₄ b₅ z e p q f = Chosen.rule2 (says-false z refl) (e .struck refl)
@@ -116,13 +110,13 @@ module _ (rows : Rows) (cell : ℕ → ℕ → ℕ) (s : Sides) where
   unfolding choose chooseFor firstPiece sideOf
   chosen =
       in-order _ _ _ _ _ (says-eq (numberOf cell s) 0)
-      (decides _ (rows .count) (Exact rows cell s) exact-says (λ k m. m .among))
+      (decides _ (rows .count) (ExactAt rows cell s) exact-says (λ k m. m .among))
       (line-decides false (rows .inP))
       (line-decides true (rows .inQ))
-      (decides _ (rows .count) (Fitting rows cell s) fitting-says (λ k m. m .among))
+      (decides _ (rows .count) (FittingAt rows cell s) fitting-says (λ k m. m .among))
 
   -- And no other choice is.
-  only-in-order : {exact c d fitting : ℕ} (b₁ b₂ b₃ b₄ b₅ : Bool) → Says b₁ (numberOf cell s ≡ 0) → Decides (Exact rows cell s) exact b₂ → Decides (Adds rows cell s false (rows .inP)) c b₃ → Decides (Adds rows cell s true (rows .inQ)) d b₄ → Decides (Fitting rows cell s) fitting b₅ → {choice : Choice} → Chosen rows cell s choice → choice ≡ orElse b₁ Choice.Scrap (orElse b₂ (Choice.Piece exact) (orElse b₃ (Choice.Line (across c)) (orElse b₄ (Choice.Line (up d)) (orElse b₅ (Choice.Trim fitting) Choice.Nothing))))
+  only-in-order : {exact c d fitting : ℕ} (b₁ b₂ b₃ b₄ b₅ : Bool) → Says b₁ (numberOf cell s ≡ 0) → Decides (ExactAt rows cell s) exact b₂ → Decides (AddsAt rows cell s false (rows .inP)) c b₃ → Decides (AddsAt rows cell s true (rows .inQ)) d b₄ → Decides (FittingAt rows cell s) fitting b₅ → {choice : Choice} → Chosen rows cell s choice → choice ≡ orElse b₁ Choice.Scrap (orElse b₂ (Choice.Piece exact) (orElse b₃ (Choice.Line (across c)) (orElse b₄ (Choice.Line (up d)) (orElse b₅ (Choice.Trim fitting) Choice.Nothing))))
   only-in-order b₁ b₂ b₃ b₄ b₅ z e p q f (Chosen.rule1 y) = strikes b₁ _ _ (z .found y)
   only-in-order b₁ b₂ b₃ b₄ b₅ z e p q f (Chosen.rule2 y l) =
       let t = finds b₂ e l in
@@ -143,25 +137,25 @@ module _ (rows : Rows) (cell : ℕ → ℕ → ℕ) (s : Sides) where
   unfolding choose chooseFor firstPiece sideOf
   chosen-only =
       only-in-order _ _ _ _ _ (says-eq (numberOf cell s) 0)
-      (decides _ (rows .count) (Exact rows cell s) exact-says (λ k m. m .among))
+      (decides _ (rows .count) (ExactAt rows cell s) exact-says (λ k m. m .among))
       (line-decides false (rows .inP))
       (line-decides true (rows .inQ))
-      (decides _ (rows .count) (Fitting rows cell s) fitting-says (λ k m. m .among))
+      (decides _ (rows .count) (FittingAt rows cell s) fitting-says (λ k m. m .among))
 
   -- None of the rules 1 to 5 strikes.
   pub record Unstruck : Type 0 where
     pub zero : numberOf cell s ≡ 0 → ⊥
-    pub exact : None (Exact rows cell s)
-    pub across : None (Adds rows cell s false (rows .inP))
-    pub up : None (Adds rows cell s true (rows .inQ))
-    pub fitting : None (Fitting rows cell s)
+    pub exact : None (ExactAt rows cell s)
+    pub across : None (AddsAt rows cell s false (rows .inP))
+    pub up : None (AddsAt rows cell s true (rows .inQ))
+    pub fitting : None (FittingAt rows cell s)
 
   -- What holds of what was chosen, whatever the order of the rules.
   unfoldable pub Fact : Choice → Type 0
   Fact Choice.Scrap = numberOf cell s ≡ 0
-  Fact (Choice.Piece k) = Exact rows cell s k
-  Fact (Choice.Line cut) = (marked : ℕ → Bool) × Adds rows cell s (cut .tall) marked (cut .at)
-  Fact (Choice.Trim k) = Fitting rows cell s k
+  Fact (Choice.Piece k) = ExactAt rows cell s k
+  Fact (Choice.Line cut) = (marked : ℕ → Bool) × AddsAt rows cell s (cut .tall) marked (cut .at)
+  Fact (Choice.Trim k) = FittingAt rows cell s k
   Fact Choice.Nothing = Unstruck
 
   fact-of : {choice : Choice} → Chosen rows cell s choice → Fact choice

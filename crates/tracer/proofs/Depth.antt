@@ -1,10 +1,10 @@
 -- A definition that goes down to the two parts of a line, with a depth that only makes it end: the equation without the depth.
-use Prim.Native.Nat.{ℕ, zero, suc, _+_, _-_, _≤_}
+use Prim.Native.Nat.{ℕ, zero, suc, _+_, _≤_}
 use mathlib.Core.Bool.{Bool, true, false}
 use mathlib.Core.Path.{_≡_, sym, _∙_}
 use native.Mathlib.Omega.{arith}
 use Rattle.cutting.specs.Candidate.{Smaller}
-use Rattle.tracer.specs.Choice.{sideOf, near, far}
+use Rattle.tracer.specs.Inner.{sideOf, near, far}
 use Rattle.tracer.specs.declared.Sides.{Sides}
 use Rattle.tracer.proofs.Rules.{Within}
 

@@ -1,5 +1,6 @@
 -- The laws of the tree rules and of the tree.
 pub mod Rules
+pub mod Least
 pub mod Chosen
 pub mod Order
 pub mod Depth
@@ -10,5 +11,5 @@ pub mod Nodes
 pub mod Valid
 pub mod Best
 pub mod Rows
-pub mod Sheets
+pub mod ByRules
 pub mod Same

@@ -3,10 +3,9 @@ use Prim.Native.Nat.{ℕ, _+_, _<_}
 use mathlib.Core.Path.{_≡_, sym, ap, ap₂, _∙_}
 use mathlib.Core.List.{List}
 use native.Mathlib.Omega.{arith}
-use Rattle.points.specs.Rows.{Rows}
+use Rattle.points.specs.Inner.{Rows}
 use Rattle.nodes.specs.Encoding.{letterP, letterS, node, encode}
-use Rattle.tracer.specs.Choice.{near, far, choose}
-use Rattle.tracer.specs.Traced.{lineOf, trimmed, treeBy, traced, nodesOf, Ready, Wrote}
+use Rattle.tracer.specs.Inner.{near, far, choose, lineOf, trimmed, treeBy, traced, nodesOf, Ready, Wrote}
 use Rattle.tracer.specs.declared.Sides.{Sides}
 use Rattle.tracer.specs.declared.Cut.{Cut}
 use Rattle.tracer.specs.declared.Choice.{Choice}

@@ -4,8 +4,8 @@ use mathlib.Core.Bool.{Bool, true, false}
 use mathlib.Core.Path.{_≡_, refl, ap, _∙_}
 use lib.Dec.{leb, ltb, eqb}
 use borrow.Author.Tests.{lt-ltb, le-ltb, le-leb, lt-leb, eq-eqb, ne-eqb}
-use Rattle.points.specs.Rows.{Rows}
-use Rattle.tracer.specs.Choice.{across, up, numberOf, firstPiece, leastLine, orElse, chooseFor, choose}
+use Rattle.points.specs.Inner.{Rows}
+use Rattle.tracer.specs.Inner.{across, up, numberOf, firstPiece, leastLine, orElse, chooseFor, choose}
 use Rattle.tracer.specs.declared.Sides.{Sides}
 use Rattle.tracer.specs.declared.Choice.{Choice}
 use Rattle.tracer.proofs.Chosen.{strikes, passes}

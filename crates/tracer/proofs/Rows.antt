@@ -1,5 +1,5 @@
 -- The rows that the code is lent hold the pieces, and their marks are the points.
-use Prim.Native.Nat.{ℕ, _-_, _≤_, _<_}
+use Prim.Native.Nat.{ℕ, _+_, _≤_, _<_}
 use mathlib.Core.Bool.{Bool}
 use mathlib.Core.Path.{_≡_, sym, ap, subst, _∙_}
 use mathlib.Core.Logic.{_↔_}
@@ -9,14 +9,33 @@ use native.Mathlib.Numerals.{add-one}
 use lib.ListN.{length, getD}
 use Rattle.laws.proofs.ByIndex.{byIndex-length, byIndex-at}
 use Rattle.cutting.specs.Limits.{sideMax}
-use Rattle.cutting.specs.Piece.{Piece, sized, noPiece, Lays, Turned}
+use Rattle.cutting.specs.Piece.{Piece, sized, noPiece, Numbered, Lays, Turned}
 use Rattle.cutting.specs.Points.{Width}
 use Rattle.cutting.proofs.Listed.{Listed, listed-numbered, lays-listed, listed-lays}
-use Rattle.points.specs.Rows.{rowsOf}
-use Rattle.points.specs.Marks.{Size, marksOf}
+use Rattle.points.specs.Inner.{Rows, rowsOf, Size, marksOf}
 use Rattle.points.proofs.Points.{marks-say}
-use Rattle.nodes.specs.Rows.{rows}
-use Rattle.tracer.specs.Traced.{HoldsPieces, MarksPoints}
+use Rattle.nodes.specs.Inner.{rows}
+use Rattle.tracer.specs.Inner.{HoldsPieces, MarksPoints}
+
+-- The piece at index k of the rows is piece k + 1, and that of no other index.
+pub record IsRow (rows : Rows) (k p q v : ℕ) : Type 0 where
+  pub among : k < rows .count
+  pub width : rows .width k ≡ p
+  pub height : rows .height k ≡ q
+  pub value : rows .value k ≡ v
+
+pub row-of : {rows : Rows} {pieces : List Piece} {n k p q v : ℕ} → HoldsPieces rows pieces → n ≡ k + 1 → Numbered pieces n p q v → IsRow rows k p q v
+row-of {rows} {pieces} {k = k} {p = p} {q = q} {v = v} holds e m =
+    record { among = among; width = sym (held .width) ∙ n .width; height = sym (held .height) ∙ n .height; value = sym (held .value) ∙ n .value }
+  where
+    n : Numbered pieces (k + 1) p q v
+    n = subst (λ (j : ℕ). Numbered pieces j p q v) e m
+
+    among : k < rows .count
+    among = omega (arith, n .last, holds .count)
+
+    held : Numbered pieces (k + 1) (rows .width k) (rows .height k) (rows .value k)
+    held = holds .piece k among
 
 module _ (widths heights values : List ℕ) (n : ℕ) where
   abbrev pieces : List Piece
@@ -65,11 +84,11 @@ module _ (widths heights values : List ℕ) (n : ℕ) where
       from z =
           record { height = getD widths (z .index) 0; value = getD values (z .index) 0; lies = subst (λ (w : ℕ). Lays pieces (getD widths (z .index) 0) w (getD values (z .index) 0)) (z .equal) (listed-lays (listed (z .index) (z .among))) }
 
-  -- The marks that `points::marks` finds mark the points.
+  -- The marks that `points::marks` finds mark the points, and nothing else.
   pub rows-mark : (a b : ℕ) → a ≤ sideMax → b ≤ sideMax → MarksPoints (rowsOf n widths heights values (marksOf (λ k. getD widths k 0) n a) (marksOf (λ k. getD heights k 0) n b)) pieces a b
   unfolding rowsOf
   rows-mark a b g h =
       record {
-        inP = λ c p. marks-say (Lays pieces) (λ k. getD widths k 0) n a c widths-are (omega (arith, p .within)) .found p;
-        inQ = λ d p. marks-say (Turned (Lays pieces)) (λ k. getD heights k 0) n b d heights-are (omega (arith, p .within)) .found p;
+        inP = λ c l. marks-say (Lays pieces) (λ k. getD widths k 0) n a c widths-are (omega arith);
+        inQ = λ d l. marks-say (Turned (Lays pieces)) (λ k. getD heights k 0) n b d heights-are (omega arith);
       }

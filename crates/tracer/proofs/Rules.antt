@@ -7,16 +7,15 @@ use native.Mathlib.Omega.{arith}
 use native.Mathlib.Numerals.{add-one}
 use lib.Dec.{eqb}
 use borrow.Author.Tests.{eq-eqb, ne-eqb, lt-ltb, le-ltb}
-use Rattle.laws.specs.First.{firstBelow}
+use Rattle.laws.specs.Inner.{firstBelow}
 use Rattle.laws.proofs.First.{first-start, first-more, first-stop}
 use Rattle.laws.proofs.Tests.{not-true, not-false}
 use Rattle.cutting.specs.Limits.{sideMax}
 use Rattle.cutting.specs.Dissection.{rest}
-use Rattle.cells.specs.Emptied.{fits}
+use Rattle.cells.specs.Inner.{fits}
 use Rattle.cells.proofs.Places.{holds-lower}
 use Rattle.nodes.specs.Encoding.{nodeLength}
-use Rattle.tracer.specs.Choice.{by, sideOf, near, far, numberOf, suits, firstPiece, addsTo, leastLine}
-use Rattle.tracer.specs.Traced.{OnTable, trimLength, together, lengthMost, Short}
+use Rattle.tracer.specs.Inner.{by, sideOf, near, far, numberOf, suits, firstPiece, addsTo, leastLine, OnTable, trimLength, together, lengthMost, Short}
 use Rattle.tracer.specs.declared.Sides.{Sides}
 use Rattle.tracer.specs.declared.Measured.{Measured}
 

@@ -1,17 +1,14 @@
 -- The tree reads the cells of its rectangle alone.
-use Prim.Native.Nat.{ℕ, suc, _+_, _-_, _/_, _≤_}
+use Prim.Native.Nat.{ℕ, suc, _+_, _-_, _/_}
 use mathlib.Core.Bool.{Bool, true, false, _&&_}
 use mathlib.Core.Path.{_≡_, refl, sym, ap, ap₂, _∙_}
 use native.Mathlib.Omega.{arith}
 use lib.Dec.{eqb}
-use Rattle.laws.specs.First.{firstBelow}
 use Rattle.laws.proofs.First.{first-same}
 use Rattle.cutting.specs.Piece.{Inside}
-use Rattle.points.specs.Rows.{Rows}
+use Rattle.points.specs.Inner.{Rows}
 use Rattle.tracer.specs.declared.Sides.{Sides}
-use Rattle.tracer.specs.declared.Choice.{Choice}
-use Rattle.tracer.specs.Choice.{sideOf, near, far, numberOf, addsTo, leastLine, chooseFor, choose}
-use Rattle.tracer.specs.Traced.{treeBy, tracesBy, traced, traces}
+use Rattle.tracer.specs.Inner.{sideOf, near, far, addsTo, leastLine, chooseFor, choose, treeBy, tracesBy, traced, traces}
 use Rattle.tracer.proofs.Depth.{Real, Part, by-parts}
 use Rattle.tracer.proofs.Traced.{tree-parts, test-parts, traced-own, traces-own}
 

@@ -5,9 +5,8 @@ use mathlib.Core.Path.{_≡_, sym, ap, subst}
 use mathlib.Core.List.{List}
 use native.Mathlib.Omega.{arith}
 use Rattle.cutting.specs.Limits.{piecesMax}
-use Rattle.points.specs.Rows.{Rows}
-use Rattle.tracer.specs.Choice.{sideOf, near, far, choose}
-use Rattle.tracer.specs.Traced.{Ready, Short, measured}
+use Rattle.points.specs.Inner.{Rows}
+use Rattle.tracer.specs.Inner.{sideOf, near, far, choose, Ready, Short, measured}
 use Rattle.tracer.specs.declared.Sides.{Sides}
 use Rattle.tracer.specs.declared.Cut.{Cut}
 use Rattle.tracer.specs.declared.Choice.{Choice}

@@ -6,15 +6,13 @@ use mathlib.Core.List.{_++_}
 use native.Mathlib.Omega.{arith}
 use native.Mathlib.Nat.{mul-le-mul, add-mul, mul-comm}
 use lib.Dec.{ltb}
-use lib.ListN.{length, length-append}
+use lib.ListN.{length}
 use Rattle.cutting.specs.Tree.{Tree}
 use Rattle.cutting.specs.Limits.{sideMax}
-use Rattle.points.specs.Rows.{Rows}
+use Rattle.points.specs.Inner.{Rows}
 use Rattle.nodes.specs.Encoding.{letterP, letterS, nodeLength, node, encode}
-use Rattle.nodes.proofs.Encoding.{node-length}
-use Rattle.tracer.specs.Choice.{sideOf, near, far, choose}
-use Rattle.tracer.specs.Chosen.{Adds}
-use Rattle.tracer.specs.Traced.{lineOf, trimTo, leaf, trimmed, treeBy, tracesBy, tracedWithin, tracesWithin, traced, traces, nodesOf, measured, letterOf, trimLength, together, Short}
+use Rattle.nodes.proofs.Encoding.{node-length, line-length}
+use Rattle.tracer.specs.Inner.{sideOf, near, far, choose, AddsAt, lineOf, trimTo, leaf, trimmed, treeBy, tracesBy, tracedWithin, tracesWithin, traced, traces, nodesOf, measured, letterOf, trimLength, together, Short}
 use Rattle.tracer.specs.declared.Sides.{Sides}
 use Rattle.tracer.specs.declared.Cut.{Cut}
 use Rattle.tracer.specs.declared.Choice.{Choice}
@@ -38,8 +36,7 @@ unfolding encode
 encode-scrap = refl
 
 pub length-line : (tall : Bool) (c : ℕ) (s t : Tree) → length (encode (lineOf tall c s t)) ≡ nodeLength + length (encode s) + length (encode t)
-length-line tall c s t =
-    omega (arith, ap length (encode-line tall c s t), length-append (node (letterOf tall) c) (encode s ++ encode t), length-append (encode s) (encode t), node-length (letterOf tall) c)
+length-line tall c s t = ap length (encode-line tall c s t) ∙ line-length (letterOf tall) c s t
 
 pub length-leaf : (k : ℕ) → length (encode (leaf k)) ≡ nodeLength
 length-leaf k = ap length (encode-leaf k) ∙ node-length letterP (k + 1)
@@ -70,7 +67,7 @@ trimLength-most size side = go (ltb size side)
     go false = omega arith
 
 -- A chosen line lies within the half of its side.
-pub within-of : {rows : Rows} {cell : ℕ → ℕ → ℕ} {s : Sides} {tall : Bool} {marked : ℕ → Bool} {c : ℕ} → Adds rows cell s tall marked c → Within tall c s
+pub within-of : {rows : Rows} {cell : ℕ → ℕ → ℕ} {s : Sides} {tall : Bool} {marked : ℕ → Bool} {c : ℕ} → AddsAt rows cell s tall marked c → Within tall c s
 within-of a = record { least = a .least; most = a .most }
 
 -- Both parts have a length, or the whole has none.

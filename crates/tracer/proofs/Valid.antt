@@ -1,5 +1,5 @@
 -- Where rule 6 strikes nowhere, the tree is valid and earns the number in the cell, on any table.
-use Prim.Native.Nat.{ℕ, _+_, _-_, _/_, _≤_, _<_}
+use Prim.Native.Nat.{ℕ, _+_, _/_, _≤_, _<_}
 use mathlib.Core.Bool.{Bool, true, false, _&&_}
 use mathlib.Core.Path.{_≡_, refl, sym, ap, ap₂, _∙_, subst}
 use mathlib.Core.Logic.{⊎-elim}
@@ -10,10 +10,8 @@ use Rattle.laws.proofs.Says.{true≢false}
 use Rattle.cutting.specs.Piece.{Piece, Numbered, Lays, InRange}
 use Rattle.cutting.specs.Dissection.{rest, Line}
 use Rattle.cutting.specs.Tree.{Tree, Valid, earning}
-use Rattle.points.specs.Rows.{Rows}
-use Rattle.tracer.specs.Choice.{sideOf, near, far, numberOf, choose}
-use Rattle.tracer.specs.Chosen.{Fitting}
-use Rattle.tracer.specs.Traced.{lineOf, trimTo, leaf, trimmed, treeBy, tracesBy, traced, traces, HoldsPieces, Dissects}
+use Rattle.points.specs.Inner.{Rows}
+use Rattle.tracer.specs.Inner.{sideOf, near, far, numberOf, choose, FittingAt, lineOf, trimTo, leaf, trimmed, treeBy, tracesBy, traced, traces, HoldsPieces, Dissects}
 use Rattle.tracer.specs.declared.Sides.{Sides}
 use Rattle.tracer.specs.declared.Choice.{Choice}
 use Rattle.tracer.proofs.Rules.{Within}
@@ -82,7 +80,7 @@ module _ (pieces : List Piece) where
     unfolding earning
     leaf-earns k h = numbered k h .value
 
-    trimmed-dissects : (s : Sides) (k : ℕ) → Fitting rows cell s k → Dissects pieces (trimmed (rows .width k) (rows .height k) k s) s (numberOf cell s)
+    trimmed-dissects : (s : Sides) (k : ℕ) → FittingAt rows cell s k → Dissects pieces (trimmed (rows .width k) (rows .height k) k s) s (numberOf cell s)
     unfolding trimmed
     trimmed-dissects s k f =
         let g = range (rows .width k) (rows .height k) (rows .value k) (record { number = k + 1; numbered = numbered k (f .among) }) in

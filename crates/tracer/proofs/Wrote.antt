@@ -12,7 +12,7 @@ use Rattle.cutting.specs.Tree.{Tree}
 use Rattle.fields.specs.Number.{bytes2}
 use Rattle.nodes.specs.Encoding.{letterV, letterH, nodeLength, node, encode}
 use Rattle.nodes.proofs.Encoding.{node-length}
-use Rattle.tracer.specs.Traced.{lineOf, trimTo, letterOf, Room, Wrote}
+use Rattle.tracer.specs.Inner.{lineOf, trimTo, letterOf, Room, Wrote}
 use Rattle.tracer.proofs.Traced.{encode-line}
 
 -- One node: its letter, and behind it its number.

@@ -1,4 +1,3 @@
 -- The tree for a rectangle by the tree rules, and its nodes.
-pub mod Choice
-pub mod Chosen
-pub mod Traced
+pub mod Rules
+pub mod Inner

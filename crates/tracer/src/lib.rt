@@ -8,11 +8,10 @@ ghost use lib.ListN.{length, getD};
 ghost use lib.Dec.{eqb};
 ghost use Rattle.cutting.specs.Limits.{piecesMax};
 ghost use Rattle.cells.specs.Cells.{empty, cellOf};
-ghost use Rattle.cells.specs.Emptied.{fits};
-ghost use Rattle.points.specs.Rows.{rowsOf};
+ghost use Rattle.cells.specs.Inner.{fits};
+ghost use Rattle.points.specs.Inner.{rowsOf};
 ghost use Rattle.nodes.specs.Encoding.{nodeLength, node, encode};
-ghost use Rattle.tracer.specs.Choice.{sideOf, near, far, numberOf, suits, firstPiece, addsTo, leastLine, choose};
-ghost use Rattle.tracer.specs.Traced.{OnTable, Ready, Short, leaf, trimTo, trimmed, trimLength, letterOf, together, nodesOf, measured, Room, Wrote};
+ghost use Rattle.tracer.specs.Inner.{sideOf, near, far, numberOf, suits, firstPiece, addsTo, leastLine, choose, OnTable, Ready, Short, leaf, trimTo, trimmed, trimLength, letterOf, together, nodesOf, measured, Room, Wrote};
 
 // A rectangle.
 pub struct Sides {

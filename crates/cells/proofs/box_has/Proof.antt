@@ -3,7 +3,7 @@ use Prim.Native.Nat.{_+_, _-_, _≤_}
 use mathlib.Core.Bool.{false}
 use mathlib.Core.Path.{_≡_, sym, _∙_}
 use native.Mathlib.Omega.{arith}
-use Rattle.cells.specs.Box.{anyInBox, sought}
+use Rattle.cells.specs.Inner.{anyInBox, sought}
 use Rattle.cells.proofs.Places.{holds-lower}
 use Rattle.cells.proofs.Box.{anyInBox-none, anyInBox-more, anyInBox-found, anyInBox-end}
 use Rattle.cells.proofs.box_has.Statement.{statement}

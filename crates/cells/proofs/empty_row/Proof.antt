@@ -4,7 +4,7 @@ use mathlib.Core.Path.{_≡_, _∙_}
 use mathlib.Core.Logic.{inl}
 use native.Mathlib.Omega.{arith}
 use lib.ListN.{length}
-use Rattle.cells.specs.Emptied.{emptiedWhere, block}
+use Rattle.cells.specs.Inner.{emptiedWhere, block}
 use Rattle.cells.proofs.Sweep.{sweep-none, row-more, row-end}
 use Rattle.cells.proofs.empty_row.Statement.{statement}
 use Rattle.cells.proofs.empty_row.Tie as tie

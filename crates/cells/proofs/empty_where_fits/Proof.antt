@@ -4,7 +4,7 @@ use mathlib.Core.Path.{_≡_, _∙_}
 use mathlib.Core.Logic.{inr}
 use native.Mathlib.Omega.{arith}
 use lib.ListN.{length}
-use Rattle.cells.specs.Emptied.{emptiedWhere, block}
+use Rattle.cells.specs.Inner.{emptiedWhere, block}
 use Rattle.cells.proofs.Places.{holds-lower}
 use Rattle.cells.proofs.Sweep.{sweep-none, rows-more, rows-end}
 use Rattle.cells.proofs.empty_where_fits.Statement.{statement}

@@ -1,6 +1,6 @@
 -- `cells::has_empty` is box_has with what it looks for.
 use borrow.Author.Needs.{needs}
-use Rattle.cells.specs.Box.{sought}
+use Rattle.cells.specs.Inner.{sought}
 use Rattle.cells.proofs.has_empty.Statement.{statement}
 use Rattle.cells.proofs.has_empty.Tie as tie
 

@@ -1,6 +1,6 @@
 -- `cells::has_exceeding` is box_has with what it looks for.
 use borrow.Author.Needs.{needs}
-use Rattle.cells.specs.Box.{sought}
+use Rattle.cells.specs.Inner.{sought}
 use Rattle.cells.proofs.has_exceeding.Statement.{statement}
 use Rattle.cells.proofs.has_exceeding.Tie as tie
 

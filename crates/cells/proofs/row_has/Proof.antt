@@ -3,7 +3,7 @@ use Prim.Native.Nat.{_-_, _≤_}
 use mathlib.Core.Bool.{false}
 use mathlib.Core.Path.{_≡_, sym, _∙_}
 use native.Mathlib.Omega.{arith}
-use Rattle.cells.specs.Box.{anyInRow, sought}
+use Rattle.cells.specs.Inner.{anyInRow, sought}
 use Rattle.cells.proofs.Box.{anyInRow-none, anyInRow-more, anyInRow-found, anyInRow-end}
 use Rattle.cells.proofs.row_has.Statement.{statement}
 use Rattle.cells.proofs.row_has.Tie as tie

@@ -6,8 +6,8 @@ use native.Mathlib.Omega.{arith}
 use lib.ListN.{length}
 use Rattle.cells.specs.Box.{isEmpty, countInBox}
 use Rattle.cells.proofs.Box.{countInBox-none}
-use Rattle.points.specs.Rows.{rowsOf}
-use Rattle.fill.specs.Filled.{filled}
+use Rattle.points.specs.Inner.{rowsOf}
+use Rattle.fill.specs.Inner.{filled}
 use Rattle.fill.proofs.Growing.{filled-none}
 use Rattle.fill.proofs.Rounds.{box-row, box-more, box-count, box-within}
 use Rattle.fill.proofs.fill_box.Statement.{statement}

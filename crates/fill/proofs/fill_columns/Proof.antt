@@ -1,11 +1,11 @@
 -- `fill_columns`: the first i cells of the row are done.
 use Prim.Native.Nat.{_+_, _≤_, _-_}
-use mathlib.Core.Path.{_≡_, refl, sym}
+use mathlib.Core.Path.{_≡_, refl}
 use native.Mathlib.Omega.{arith}
 use lib.ListN.{length}
 use Rattle.cells.specs.Box.{isEmpty, countInRow}
-use Rattle.points.specs.Rows.{rowsOf}
-use Rattle.fill.specs.Filled.{filled}
+use Rattle.points.specs.Inner.{rowsOf}
+use Rattle.fill.specs.Inner.{filled}
 use Rattle.fill.proofs.Rounds.{entered, entered-count, lines-up, row-around, row-more, row-count, row-within}
 use Rattle.fill.proofs.fill_columns.Statement.{statement}
 use Rattle.fill.proofs.fill_columns.Tie as tie

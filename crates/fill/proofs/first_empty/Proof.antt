@@ -1,7 +1,7 @@
 -- `first_empty`: no cell before column i + 1 is empty.
 use Prim.Native.Nat.{_+_, _≤_, _-_}
 use native.Mathlib.Omega.{arith}
-use Rattle.fill.specs.Floor.{FullBefore}
+use Rattle.fill.specs.Inner.{FullBefore}
 use Rattle.fill.proofs.Rounds.{before-none, before-more, row-cells}
 use Rattle.fill.proofs.first_empty.Statement.{statement}
 use Rattle.fill.proofs.first_empty.Tie as tie

@@ -1,6 +1,5 @@
 -- `ask_block` meets its contract.
-use mathlib.Core.Path.{refl}
-use Rattle.khonvertseg.specs.Block.{askedBlock, askedBlockCells}
+use Rattle.desk.proofs.Words.{ask-exactly}
 use Rattle.khonvertseg.proofs.Block.{block-refused, block-given}
 use borrow.Author.Needs.{needs}
 use Rattle.khonvertseg.proofs.ask_block.Statement.{statement}
@@ -16,8 +15,7 @@ from-block-requires c κs = search needs
 
 -- src/lib.rt:131:9
 returns : tie.Need-returns
-unfolding askedBlock askedBlockCells
-returns c = (block-refused _ _ _ (c .before .before .from-block .ensures) (c .if1 .taken), block-refused _ _ _ (c .before .before .from-block .ensures) (c .if1 .taken))
+returns c = block-refused _ (c .before .before .from-block .ensures) (c .if1 .taken)
 
 -- src/lib.rt:134:5
 ask-requires : tie.Need-ask-requires
@@ -29,11 +27,8 @@ same-length c = search needs
 
 -- src/lib.rt:125:1
 returns-2 : tie.Need-returns-2
-unfolding askedBlock askedBlockCells
-returns-2 c = (
-  block-given _ _ _ (c .before .before .before .before .before .before .before .from-block .ensures) (c .before .before .before .before .before .if1 .left) (c .before .before .ask .ensures .0),
-  block-given _ _ _ (c .before .before .before .before .before .before .before .from-block .ensures) (c .before .before .before .before .before .if1 .left) (c .before .before .ask .ensures .1),
-)
+returns-2 c =
+    block-given _ (c .before .before .before .before .before .before .before .from-block .ensures) (c .before .before .before .before .before .if1 .left) (ask-exactly _ _ _ _ .0 (c .before .before .ask .ensures))
 
 pub ask-block-spec : {M : Type 1} → statement M
 ask-block-spec =

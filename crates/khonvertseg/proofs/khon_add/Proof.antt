@@ -1,6 +1,5 @@
 -- `khon_add` meets its contract.
-use mathlib.Core.Path.{ap, _∙_}
-use Rattle.khonvertseg.specs.Flat.{flatChanged}
+use Rattle.desk.proofs.Words.{add-exactly}
 use borrow.Author.Needs.{needs}
 use Rattle.khonvertseg.proofs.khon_add.Statement.{statement}
 use Rattle.khonvertseg.proofs.khon_add.Tie as tie
@@ -23,7 +22,7 @@ same-length c = search needs
 
 -- src/lib.rt:100:1
 returns : tie.Need-returns
-returns c = (c .flat-changed .ensures ∙ ap flatChanged (c .before .before .before .add .ensures .0), c .before .before .before .add .ensures .1)
+returns c = record { answer = _; keeps = add-exactly _ _ _ .0 (c .before .before .before .add .ensures); laid = c .flat-changed .ensures }
 
 pub khon-add-spec : {M : Type 1} → statement M
 khon-add-spec = tie.close (tie.spec add-requires flat-changed-requires same-length returns)

@@ -1,6 +1,4 @@
 -- `khon_ask` meets its contract.
-use mathlib.Core.Path.{ap, _∙_}
-use Rattle.khonvertseg.specs.Flat.{flatAsked}
 use borrow.Author.Needs.{needs}
 use Rattle.khonvertseg.proofs.khon_ask.Statement.{statement}
 use Rattle.khonvertseg.proofs.khon_ask.Tie as tie
@@ -23,7 +21,7 @@ same-length c = search needs
 
 -- src/lib.rt:137:1
 returns : tie.Need-returns
-returns c = (c .flat-asked .ensures ∙ ap flatAsked (c .before .before .before .ask-block .ensures .0), c .before .before .before .ask-block .ensures .1)
+returns c = record { answer = _; keeps = c .before .before .before .ask-block .ensures; laid = c .flat-asked .ensures }
 
 pub khon-ask-spec : {M : Type 1} → statement M
 khon-ask-spec = tie.close (tie.spec ask-block-requires flat-asked-requires same-length returns)

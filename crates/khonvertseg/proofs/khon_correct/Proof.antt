@@ -1,6 +1,5 @@
 -- `khon_correct` meets its contract.
-use mathlib.Core.Path.{ap, _∙_}
-use Rattle.khonvertseg.specs.Flat.{flatChanged}
+use Rattle.desk.proofs.Words.{correct-exactly}
 use borrow.Author.Needs.{needs}
 use Rattle.khonvertseg.proofs.khon_correct.Statement.{statement}
 use Rattle.khonvertseg.proofs.khon_correct.Tie as tie
@@ -23,7 +22,7 @@ same-length c = search needs
 
 -- src/lib.rt:108:1
 returns : tie.Need-returns
-returns c = (c .flat-changed .ensures ∙ ap flatChanged (c .before .before .before .correct .ensures .0), c .before .before .before .correct .ensures .1)
+returns c = record { answer = _; keeps = correct-exactly _ _ _ _ .0 (c .before .before .before .correct .ensures); laid = c .flat-changed .ensures }
 
 pub khon-correct-spec : {M : Type 1} → statement M
 khon-correct-spec = tie.close (tie.spec correct-requires flat-changed-requires same-length returns)

@@ -1,6 +1,5 @@
 -- `khon_open` meets its contract.
-use mathlib.Core.Path.{ap, _∙_}
-use Rattle.khonvertseg.specs.Flat.{flatChanged}
+use Rattle.desk.proofs.Words.{open-exactly}
 use borrow.Author.Needs.{needs}
 use Rattle.khonvertseg.proofs.khon_open.Statement.{statement}
 use Rattle.khonvertseg.proofs.khon_open.Tie as tie
@@ -23,7 +22,7 @@ same-length c = search needs
 
 -- src/lib.rt:92:1
 returns : tie.Need-returns
-returns c = (c .flat-changed .ensures ∙ ap flatChanged (c .before .before .before .«open» .ensures .0), c .before .before .before .«open» .ensures .1)
+returns c = record { answer = _; keeps = open-exactly _ _ _ .0 (c .before .before .before .«open» .ensures); laid = c .flat-changed .ensures }
 
 pub khon-open-spec : {M : Type 1} → statement M
 khon-open-spec = tie.close (tie.spec open-requires flat-changed-requires same-length returns)

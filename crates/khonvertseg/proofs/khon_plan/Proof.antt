@@ -1,6 +1,4 @@
 -- `khon_plan` meets its contract.
-use mathlib.Core.Path.{ap, _∙_}
-use Rattle.khonvertseg.specs.Flat.{flatPlanned}
 use borrow.Author.Needs.{needs}
 use Rattle.khonvertseg.proofs.khon_plan.Statement.{statement}
 use Rattle.khonvertseg.proofs.khon_plan.Tie as tie
@@ -19,7 +17,7 @@ same-length : tie.Need-same-length
 same-length c = search needs
 
 returns : tie.Need-returns
-returns c = (c .flat-planned .ensures ∙ ap flatPlanned (c .before .before .before .plan-block .ensures .0), c .before .before .before .plan-block .ensures .1)
+returns c = record { answer = _; keeps = c .before .before .before .plan-block .ensures; laid = c .flat-planned .ensures }
 
 pub khon-plan-spec : {M : Type 1} → statement M
 khon-plan-spec = tie.close (tie.spec plan-block-requires flat-planned-requires same-length returns)

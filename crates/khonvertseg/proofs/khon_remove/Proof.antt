@@ -1,6 +1,5 @@
 -- `khon_remove` meets its contract.
-use mathlib.Core.Path.{ap, _∙_}
-use Rattle.khonvertseg.specs.Flat.{flatChanged}
+use Rattle.desk.proofs.Words.{remove-exactly}
 use borrow.Author.Needs.{needs}
 use Rattle.khonvertseg.proofs.khon_remove.Statement.{statement}
 use Rattle.khonvertseg.proofs.khon_remove.Tie as tie
@@ -23,7 +22,7 @@ same-length c = search needs
 
 -- src/lib.rt:116:1
 returns : tie.Need-returns
-returns c = (c .flat-changed .ensures ∙ ap flatChanged (c .before .before .before .remove .ensures .0), c .before .before .before .remove .ensures .1)
+returns c = record { answer = _; keeps = remove-exactly _ _ _ .0 (c .before .before .before .remove .ensures); laid = c .flat-changed .ensures }
 
 pub khon-remove-spec : {M : Type 1} → statement M
 khon-remove-spec = tie.close (tie.spec remove-requires flat-changed-requires same-length returns)

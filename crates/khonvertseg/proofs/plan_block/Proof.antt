@@ -1,5 +1,5 @@
 -- `plan_block` meets its contract.
-use Rattle.khonvertseg.specs.Block.{plannedBlock, plannedBlockBytes}
+use Rattle.plan.proofs.Plans.{plan-exactly}
 use Rattle.khonvertseg.proofs.Block.{block-refused, block-given}
 use borrow.Author.Needs.{needs}
 use Rattle.khonvertseg.proofs.plan_block.Statement.{statement}
@@ -13,8 +13,7 @@ from-block-requires : tie.Need-from-block-requires
 from-block-requires c κs = search needs
 
 returns : tie.Need-returns
-unfolding plannedBlock plannedBlockBytes
-returns c = (block-refused _ _ _ (c .before .before .from-block .ensures) (c .if1 .taken), block-refused _ _ _ (c .before .before .from-block .ensures) (c .if1 .taken))
+returns c = block-refused _ (c .before .before .from-block .ensures) (c .if1 .taken)
 
 plan-requires : tie.Need-plan-requires
 plan-requires c κs = search needs
@@ -23,11 +22,8 @@ same-length : tie.Need-same-length
 same-length c = search needs
 
 returns-2 : tie.Need-returns-2
-unfolding plannedBlock plannedBlockBytes
-returns-2 c = (
-  block-given _ _ _ (c .before .before .before .before .before .before .before .from-block .ensures) (c .before .before .before .before .before .if1 .left) (c .before .before .plan .ensures .0),
-  block-given _ _ _ (c .before .before .before .before .before .before .before .from-block .ensures) (c .before .before .before .before .before .if1 .left) (c .before .before .plan .ensures .1),
-)
+returns-2 c =
+    block-given _ (c .before .before .before .before .before .before .before .from-block .ensures) (c .before .before .before .before .before .if1 .left) (plan-exactly _ _ _ _ _ .0 (c .before .before .plan .ensures))
 
 pub plan-block-spec : {M : Type 1} → statement M
 plan-block-spec =

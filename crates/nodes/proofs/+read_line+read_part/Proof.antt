@@ -6,7 +6,7 @@ use Rattle.nodes.proofs.Rules.{rows-few}
 use Rattle.nodes.proofs.Own.{part-leaf, part-line, part-broken, line-near-broken, line-far-broken, line-both}
 use Rattle.nodes.proofs.Within.{near-less, far-less, line-ready, line-less, adds-up}
 use Prim.Native.Nat.{ℕ, _+_, _*_, _<_}
-use Rattle.nodes.specs.Reader.{area}
+use Rattle.nodes.specs.Inner.{area}
 use borrow.Fn.Kinds.{In}
 use borrow.Fn.PlainCycle.{Measures, is, falls, and}
 use Rattle.nodes.proofs.read_line.Reads as read-line

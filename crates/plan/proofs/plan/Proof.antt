@@ -2,7 +2,7 @@
 use native.Mathlib.Omega.{arith}
 use Rattle.plan.proofs.Exactly.{plan-granted}
 use Rattle.plan.proofs.Answers.{refused-answer, written-answer, cell-there, cell-read, length-fits}
-use Rattle.plan.specs.Planning.{planned, plannedBytes}
+use Rattle.plan.specs.Inner.{planned, plannedBytes}
 use borrow.Author.Needs.{needs}
 use Rattle.plan.proofs.plan.Statement.{statement}
 use Rattle.plan.proofs.plan.Tie as tie

@@ -3,7 +3,7 @@ use Prim.Native.Nat.{_-_, _≤_}
 use native.Mathlib.Omega.{arith}
 use mathlib.Core.Path.{_≡_}
 use lib.ListN.{getD}
-use Rattle.points.specs.Marks.{marksOf}
+use Rattle.points.specs.Inner.{marksOf}
 use Rattle.points.proofs.Points.{marksOf-none, marksOf-more}
 use Rattle.points.proofs.marks.Statement.{statement}
 use Rattle.points.proofs.marks.Tie as tie

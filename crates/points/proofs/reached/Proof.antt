@@ -5,7 +5,7 @@ use native.Mathlib.Omega.{arith}
 use mathlib.Core.Bool.{false}
 use mathlib.Core.Path.{_≡_, sym}
 use lib.ListN.{getD}
-use Rattle.points.specs.Marks.{someMakes}
+use Rattle.points.specs.Inner.{someMakes}
 use Rattle.points.proofs.Reaches.{someMakes-none, someMakes-more, someMakes-says, makes-read}
 use Rattle.points.proofs.reached.Statement.{statement}
 use Rattle.points.proofs.reached.Tie as tie

@@ -2,8 +2,8 @@
 use mathlib.Core.Path.{_≡_, sym, _∙_}
 use borrow.Author.Needs.{needs}
 use Rattle.cells.specs.Cells.{cellOf}
-use Rattle.points.specs.Rows.{Rows, rowsOf}
-use Rattle.tracer.specs.Choice.{choose}
+use Rattle.points.specs.Inner.{Rows, rowsOf}
+use Rattle.tracer.specs.Inner.{choose}
 use Rattle.tracer.specs.declared.Choice.{Choice}
 use Rattle.tracer.proofs.Rules.{Within}
 use Rattle.tracer.proofs.Traced.{measured-scrap, measured-piece, measured-line, measured-trim, measured-nothing}

@@ -3,10 +3,9 @@ use mathlib.Core.Path.{_≡_, refl, sym, _∙_}
 use native.Mathlib.Omega.{arith}
 use borrow.Author.Needs.{needs}
 use Rattle.cells.specs.Cells.{cellOf}
-use Rattle.points.specs.Rows.{Rows, rowsOf}
+use Rattle.points.specs.Inner.{Rows, rowsOf}
 use Rattle.nodes.specs.Encoding.{node, encode}
-use Rattle.tracer.specs.Choice.{near, far, choose}
-use Rattle.tracer.specs.Traced.{lineOf, letterOf, traced, Room, Wrote}
+use Rattle.tracer.specs.Inner.{near, far, choose, lineOf, letterOf, traced, Room, Wrote}
 use Rattle.tracer.specs.declared.Sides.{Sides}
 use Rattle.tracer.specs.declared.Choice.{Choice}
 use Rattle.tracer.proofs.Rules.{Within}

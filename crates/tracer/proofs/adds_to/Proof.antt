@@ -1,7 +1,7 @@
 -- `tracer::adds_to` meets its contract.
 use mathlib.Core.Path.{sym, subst}
 use native.Mathlib.Omega.{arith}
-use Rattle.tracer.specs.Traced.{OnTable}
+use Rattle.tracer.specs.Inner.{OnTable}
 use Rattle.tracer.proofs.Rules.{side-most, near-table, far-table, adds-unmarked, adds-marked}
 use borrow.Author.Needs.{needs}
 use Rattle.tracer.proofs.adds_to.Statement.{statement}

@@ -1,6 +1,6 @@
 -- `tracer::choose` meets its contract: each return is a rule that strikes where those before it do not.
 use Rattle.tracer.proofs.Order.{rule1, rule2, rule3, rule4, rule5, rule6}
-use Rattle.points.specs.Rows.{rowsOf}
+use Rattle.points.specs.Inner.{rowsOf}
 use borrow.Author.Needs.{needs}
 use Rattle.tracer.proofs.choose.Statement.{statement}
 use Rattle.tracer.proofs.choose.Tie as tie

@@ -4,7 +4,7 @@ use mathlib.Core.Path.{_≡_, sym}
 use lib.ListN.{getD}
 use native.Mathlib.Omega.{arith}
 use borrow.Author.Needs.{needs}
-use Rattle.tracer.specs.Choice.{firstPiece}
+use Rattle.tracer.specs.Inner.{firstPiece}
 use Rattle.tracer.proofs.Rules.{suits-read, piece-start, piece-more, piece-stop}
 use Rattle.tracer.proofs.first_piece.Statement.{statement}
 use Rattle.tracer.proofs.first_piece.Tie as tie

@@ -1,6 +1,6 @@
 -- `tracer::fits` meets its contract.
 use Rattle.laws.proofs.Tests.{le-no, le-yes}
-use Rattle.cells.specs.Emptied.{fits}
+use Rattle.cells.specs.Inner.{fits}
 use mathlib.Core.Path.{refl}
 use Rattle.tracer.proofs.fits.Statement.{statement}
 use Rattle.tracer.proofs.fits.Tie as tie

@@ -2,7 +2,7 @@
 use mathlib.Core.Bool.{false}
 use native.Mathlib.Omega.{arith}
 use Rattle.nodes.specs.Encoding.{encode}
-use Rattle.tracer.specs.Traced.{letterOf, trimmed}
+use Rattle.tracer.specs.Inner.{letterOf, trimmed}
 use Rattle.tracer.proofs.Wrote.{node-space, line-room, near-room, far-room, wrote-line, cut-room, whole-room, wrote-cut, wrote-whole}
 use borrow.Author.Needs.{needs}
 use Rattle.tracer.proofs.write_trimmed.Statement.{statement}

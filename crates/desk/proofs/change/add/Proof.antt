@@ -1,9 +1,8 @@
 -- `add` answers and empties as it promises.
-use native.Mathlib.Omega.{arith}
 use mathlib.Core.Path.{refl}
 use Rattle.desk.proofs.Granted.{add-granted}
 use Rattle.desk.proofs.Answers.{change-refused, change-given}
-use Rattle.desk.specs.Changing.{addedJob, addedCells}
+use Rattle.desk.specs.Inner.{addedJob, addedCells}
 use borrow.Author.Needs.{needs}
 use Rattle.desk.proofs.change.add.Statement.{statement}
 use Rattle.desk.proofs.change.add.Tie as tie

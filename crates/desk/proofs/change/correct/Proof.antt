@@ -1,9 +1,8 @@
 -- `correct` answers and empties as it promises: the old size, then the new one.
-use native.Mathlib.Omega.{arith}
 use mathlib.Core.Path.{refl, ap, _∙_}
 use Rattle.desk.proofs.Granted.{correct-granted, record-in}
 use Rattle.desk.proofs.Answers.{change-refused, change-given, usable-still, emptied-both}
-use Rattle.desk.specs.Changing.{emptiedSize, correctedJob, correctedCells}
+use Rattle.desk.specs.Inner.{emptiedSize, correctedJob, correctedCells}
 use borrow.Author.Needs.{needs}
 use Rattle.desk.proofs.change.correct.Statement.{statement}
 use Rattle.desk.proofs.change.correct.Tie as tie

@@ -1,8 +1,4 @@
 -- `empty_size` empties with the job's sides and the size.
-use native.Mathlib.Omega.{arith}
-use mathlib.Core.List.{List}
-use mathlib.Core.Path.{_∙_}
-use Rattle.cells.specs.Emptied.{emptied}
 use Rattle.desk.proofs.Answers.{size-holds, size-emptied}
 use borrow.Author.Needs.{needs}
 use Rattle.desk.proofs.change.empty_size.Statement.{statement}

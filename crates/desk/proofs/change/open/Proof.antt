@@ -1,9 +1,8 @@
 -- `open` answers and empties as it promises.
 use native.Mathlib.Omega.{arith}
-use mathlib.Core.Path.{refl}
 use Rattle.desk.proofs.Granted.{open-granted}
 use Rattle.desk.proofs.Answers.{change-refused, change-given}
-use Rattle.desk.specs.Changing.{opened, openedCells}
+use Rattle.desk.specs.Inner.{opened, openedCells}
 use borrow.Author.Needs.{needs}
 use Rattle.desk.proofs.change.open.Statement.{statement}
 use Rattle.desk.proofs.change.open.Tie as tie

@@ -1,9 +1,8 @@
 -- `remove` answers and empties as it promises.
-use native.Mathlib.Omega.{arith}
 use mathlib.Core.Path.{refl, ap, _∙_}
 use Rattle.desk.proofs.Granted.{remove-granted, record-in}
 use Rattle.desk.proofs.Answers.{change-refused, change-given}
-use Rattle.desk.specs.Changing.{emptiedSize, removedJob, removedCells}
+use Rattle.desk.specs.Inner.{emptiedSize, removedJob, removedCells}
 use borrow.Author.Needs.{needs}
 use Rattle.desk.proofs.change.remove.Statement.{statement}
 use Rattle.desk.proofs.change.remove.Tie as tie

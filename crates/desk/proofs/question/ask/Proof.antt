@@ -1,9 +1,7 @@
 -- `ask` answers and fills as it promises.
-use native.Mathlib.Omega.{arith}
-use mathlib.Core.Path.{refl, _∙_}
 use Rattle.desk.proofs.Granted.{ask-granted, cell-there}
 use Rattle.desk.proofs.Answers.{asked-refused, asked-given, read-at}
-use Rattle.desk.specs.Asking.{asked, askedCells}
+use Rattle.desk.specs.Inner.{asked, askedCells}
 use borrow.Author.Needs.{needs}
 use Rattle.desk.proofs.question.ask.Statement.{statement}
 use Rattle.desk.proofs.question.ask.Tie as tie

@@ -1,5 +1,4 @@
 -- `fill_for`: the rows and marks that are made are those of the job.
-use native.Mathlib.Omega.{arith}
 use Rattle.desk.proofs.Granted.{rows-are, box-ready, box-filled}
 use borrow.Author.Needs.{needs}
 use Rattle.desk.proofs.question.fill_for.Statement.{statement}

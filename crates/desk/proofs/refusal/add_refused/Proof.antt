@@ -1,8 +1,8 @@
 -- `add_refused` goes along its chain.
-use mathlib.Core.Path.{refl, _∙_}
+use mathlib.Core.Path.{refl}
 use native.Mathlib.Omega.{arith}
 use Rattle.desk.proofs.Chain.{first-refuses, first-passes, unless-no, unless-yes, if-equal, if-differs}
-use Rattle.desk.specs.Refusals.{addRefused}
+use Rattle.desk.specs.Inner.{addRefused}
 use borrow.Author.Needs.{needs}
 use Rattle.desk.proofs.refusal.add_refused.Statement.{statement}
 use Rattle.desk.proofs.refusal.add_refused.Tie as tie

@@ -1,8 +1,8 @@
 -- `ask_refused` goes along its chain.
-use mathlib.Core.Path.{refl, _∙_}
+use mathlib.Core.Path.{refl}
 use native.Mathlib.Omega.{arith}
 use Rattle.desk.proofs.Chain.{first-refuses, first-passes, unless-no, unless-yes, if-yes, if-no}
-use Rattle.desk.specs.Refusals.{askRefused}
+use Rattle.desk.specs.Inner.{askRefused}
 use Rattle.desk.proofs.Exactly.{box-holds, box-test}
 use borrow.Author.Needs.{needs}
 use Rattle.desk.proofs.refusal.ask_refused.Statement.{statement}

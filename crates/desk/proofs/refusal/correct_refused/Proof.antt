@@ -1,8 +1,6 @@
 -- `correct_refused` goes along its chain.
-use mathlib.Core.Path.{refl, _∙_}
-use native.Mathlib.Omega.{arith}
 use Rattle.desk.proofs.Chain.{first-refuses, first-passes, unless-no, unless-yes}
-use Rattle.desk.specs.Refusals.{correctRefused}
+use Rattle.desk.specs.Inner.{correctRefused}
 use borrow.Author.Needs.{needs}
 use Rattle.desk.proofs.refusal.correct_refused.Statement.{statement}
 use Rattle.desk.proofs.refusal.correct_refused.Tie as tie

@@ -1,7 +1,7 @@
 -- `inside` meets its contract.
 use mathlib.Core.Path.{ap, _∙_}
 use Prim.Native.Nat.{ℕ}
-use Rattle.job.specs.Range.{within}
+use Rattle.job.specs.Inner.{within}
 use Rattle.laws.proofs.Tests.{and-no, and-yes}
 use borrow.Author.Needs.{needs}
 use Rattle.desk.proofs.refusal.inside.Statement.{statement}

@@ -4,7 +4,8 @@ use mathlib.Core.Path.{refl, ap₂}
 use native.Mathlib.Omega.{arith}
 use lib.ListN.{length}
 use Rattle.desk.proofs.Chain.{first-refuses, first-passes, unless-no, unless-yes, if-less, if-enough}
-use Rattle.desk.specs.Refusals.{area, jobRefused}
+use Rattle.desk.specs.Refusals.{area}
+use Rattle.desk.specs.Inner.{jobRefused}
 use Rattle.desk.proofs.Exactly.{sides-fit}
 use borrow.Author.Needs.{needs}
 use Rattle.desk.proofs.refusal.job_refused.Statement.{statement}

@@ -1,10 +1,10 @@
 -- `open_refused` goes along its chain.
-use mathlib.Core.Path.{refl, _∙_}
+use mathlib.Core.Path.{refl}
 use native.Mathlib.Omega.{arith}
 use Prim.Native.Nat.{_*_}
 use lib.ListN.{length}
 use Rattle.desk.proofs.Chain.{first-refuses, first-passes, unless-no, unless-yes, if-less, if-enough}
-use Rattle.desk.specs.Refusals.{openRefused}
+use Rattle.desk.specs.Inner.{openRefused}
 use Rattle.desk.proofs.Exactly.{open-fits}
 use borrow.Author.Needs.{needs}
 use Rattle.desk.proofs.refusal.open_refused.Statement.{statement}

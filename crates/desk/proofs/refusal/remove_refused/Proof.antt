@@ -1,11 +1,8 @@
 -- `remove_refused` goes along its chain.
-use mathlib.Core.Path.{refl, _∙_}
-use native.Mathlib.Omega.{arith}
-use mathlib.Core.Path.{ap}
-use Prim.Native.Nat.{ℕ}
-use Rattle.job.specs.Range.{within}
+use mathlib.Core.Path.{_∙_, ap}
+use Rattle.job.specs.Inner.{within}
 use Rattle.desk.proofs.Chain.{first-refuses, first-passes, unless-no, unless-yes}
-use Rattle.desk.specs.Refusals.{removeRefused}
+use Rattle.desk.specs.Inner.{removeRefused}
 use borrow.Author.Needs.{needs}
 use Rattle.desk.proofs.refusal.remove_refused.Statement.{statement}
 use Rattle.desk.proofs.refusal.remove_refused.Tie as tie

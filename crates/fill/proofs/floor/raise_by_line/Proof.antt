@@ -1,6 +1,6 @@
 -- `raise_by_line`: the columns before u have been raised.
 use Prim.Native.Nat.{_+_, _≤_, _-_, max}
-use mathlib.Core.Path.{_≡_, refl, ap₂, _∙_}
+use mathlib.Core.Path.{_≡_, refl, ap₂}
 use native.Mathlib.Omega.{arith}
 use lib.ListN.{length, length-set}
 use Rattle.cells.specs.Cells.{cellOf}

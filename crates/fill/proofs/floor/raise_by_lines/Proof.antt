@@ -1,11 +1,11 @@
 -- `raise_by_lines`: the lines at 1, …, d have been tried.
-use Prim.Native.Nat.{_≤_, _-_, max}
-use mathlib.Core.Path.{_≡_, refl, sym, ap, ap₂, _∙_, subst}
+use Prim.Native.Nat.{_≤_, _-_}
+use mathlib.Core.Path.{_≡_, refl}
 use native.Mathlib.Omega.{arith}
 use lib.ListN.{length, getD}
 use mathlib.Core.Bool.{false}
 use Rattle.cells.specs.Cells.{cellOf}
-use Rattle.fill.specs.Floor.{Columns}
+use Rattle.fill.specs.Inner.{Columns}
 use Rattle.fill.proofs.Floors.{lined, lined-none, lined-marked, lined-unmarked, lined-end}
 use Rattle.fill.proofs.floor.raise_by_lines.Statement.{statement}
 use Rattle.fill.proofs.floor.raise_by_lines.Tie as tie

@@ -1,10 +1,9 @@
 -- `raise_by_pieces`: the pieces before k have been laid.
-use Prim.Native.Nat.{_≤_, _-_, max}
-use mathlib.Core.Path.{_≡_, refl, sym, ap, ap₂, _∙_, subst}
+use Prim.Native.Nat.{_≤_, _-_}
+use mathlib.Core.Path.{_≡_, refl}
 use native.Mathlib.Omega.{arith}
 use lib.ListN.{length, getD}
-use Rattle.fill.specs.Worth.{fittingValue}
-use Rattle.fill.specs.Floor.{Columns}
+use Rattle.fill.specs.Inner.{fittingValue, Columns}
 use Rattle.fill.proofs.Floors.{pieces-none, pieces-more}
 use Rattle.fill.proofs.floor.raise_by_pieces.Statement.{statement}
 use Rattle.fill.proofs.floor.raise_by_pieces.Tie as tie

@@ -1,6 +1,6 @@
 -- `raise_to`: the columns before u have been raised.
 use Prim.Native.Nat.{_+_, _≤_, _-_, max}
-use mathlib.Core.Path.{_≡_, refl, _∙_}
+use mathlib.Core.Path.{_≡_, refl}
 use native.Mathlib.Omega.{arith}
 use lib.ListN.{length, length-set}
 use Rattle.fill.proofs.Floors.{RaisedTo, raised-none, raised-more, raised-end}

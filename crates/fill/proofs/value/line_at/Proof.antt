@@ -1,7 +1,7 @@
 -- `line_at`: the two parts' numbers where the line is marked.
 use mathlib.Core.Path.{refl}
 use native.Mathlib.Omega.{arith}
-use Rattle.fill.proofs.Steps.{row-cell, line-marked, line-unmarked, line-fits}
+use Rattle.fill.proofs.Steps.{line-marked, line-unmarked, line-fits}
 use borrow.Author.Needs.{needs}
 use Rattle.fill.proofs.value.line_at.Statement.{statement}
 use Rattle.fill.proofs.value.line_at.Tie as tie

@@ -4,7 +4,7 @@ use lib.Dec.{leb}
 use borrow.Author.Needs.{needs}
 use Rattle.cutting.specs.Limits.{sideMax, piecesMax}
 use Rattle.laws.proofs.Tests.{and-no, and-yes, le-no, le-yes}
-use Rattle.job.specs.Range.{within, piecesInRange, jobInRange}
+use Rattle.job.specs.Inner.{within, piecesInRange, jobInRange}
 use Rattle.job.proofs.Job.in_range.Statement.{statement}
 use Rattle.job.proofs.Job.in_range.Tie as tie
 

@@ -6,10 +6,10 @@ use native.Mathlib.Omega.{arith}
 use lib.ListN.{getD}
 use borrow.Author.Needs.{needs}
 use Rattle.laws.proofs.Tests.{all-no, all-yes}
-use Rattle.laws.specs.Below.{allBelow}
+use Rattle.laws.specs.Inner.{allBelow}
 use Rattle.laws.proofs.Below.{allBelow-none}
 use Rattle.job.specs.Job.{noRecord}
-use Rattle.job.specs.Range.{pieceInRange, piecesInRange}
+use Rattle.job.specs.Inner.{pieceInRange, piecesInRange}
 use Rattle.job.proofs.Job.pieces_in_range.Statement.{statement}
 use Rattle.job.proofs.Job.pieces_in_range.Tie as tie
 

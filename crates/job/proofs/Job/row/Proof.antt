@@ -5,10 +5,10 @@ use native.Mathlib.Omega.{arith}
 use lib.ListN.{getD}
 use borrow.Author.Needs.{needs}
 use Rattle.cutting.specs.Limits.{piecesMax}
-use Rattle.laws.specs.Filled.{filled}
+use Rattle.laws.specs.Inner.{filled}
 use Rattle.laws.proofs.Filled.{filled-none, filled-more}
 use Rattle.job.specs.Job.{pieceOf, noRecord}
-use Rattle.job.specs.Row.{measured}
+use Rattle.job.specs.Inner.{measured}
 use Rattle.job.proofs.Rows.{row-done}
 use Rattle.job.proofs.Job.row.Statement.{statement}
 use Rattle.job.proofs.Job.row.Tie as tie

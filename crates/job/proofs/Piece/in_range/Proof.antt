@@ -3,7 +3,7 @@ use mathlib.Core.Bool.{_&&_}
 use borrow.Author.Needs.{needs}
 use Rattle.laws.proofs.Tests.{and-no, and-yes}
 use Rattle.cutting.specs.Limits.{sizeMax, valueMax}
-use Rattle.job.specs.Range.{within, pieceInRange}
+use Rattle.job.specs.Inner.{within, pieceInRange}
 use Rattle.job.proofs.Piece.in_range.Statement.{statement}
 use Rattle.job.proofs.Piece.in_range.Tie as tie
 

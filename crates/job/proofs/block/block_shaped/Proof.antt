@@ -8,7 +8,8 @@ use lib.ListN.{length}
 use borrow.Author.Needs.{needs}
 use Rattle.laws.proofs.Tests.{le-no, le-yes}
 use Rattle.cutting.specs.Limits.{piecesMax}
-use Rattle.job.specs.Block.{blockShape, countIn, blockLength}
+use Rattle.job.specs.Block.{countIn, blockLength}
+use Rattle.job.specs.Inner.{blockShape}
 use Rattle.job.proofs.block.block_shaped.Statement.{statement}
 use Rattle.job.proofs.block.block_shaped.Tie as tie
 

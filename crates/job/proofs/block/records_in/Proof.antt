@@ -5,7 +5,7 @@ use mathlib.Core.Path.{_≡_, ap, _∙_}
 use native.Mathlib.Omega.{arith}
 use borrow.Author.Needs.{needs}
 use Rattle.cutting.specs.Limits.{piecesMax}
-use Rattle.laws.specs.Filled.{filled}
+use Rattle.laws.specs.Inner.{filled}
 use Rattle.laws.proofs.Filled.{filled-none, filled-more, filled-end}
 use Rattle.job.specs.Job.{recordOf, noRecord}
 use Rattle.job.specs.Block.{pieceIn}

@@ -5,10 +5,10 @@ use mathlib.Core.Path.{_≡_, ap, _∙_}
 use native.Mathlib.Omega.{arith}
 use borrow.Author.Needs.{needs}
 use Rattle.cutting.specs.Limits.{piecesMax}
-use Rattle.laws.specs.Filled.{filled}
+use Rattle.laws.specs.Inner.{filled}
 use Rattle.laws.proofs.Filled.{filled-none, filled-end}
 use Rattle.job.specs.Job.{noRecord}
-use Rattle.job.specs.Change.{movedFrom}
+use Rattle.job.specs.Inner.{movedFrom}
 use Rattle.job.proofs.Changed.{kept-more}
 use Rattle.job.proofs.change.kept.Statement.{statement}
 use Rattle.job.proofs.change.kept.Tie as tie

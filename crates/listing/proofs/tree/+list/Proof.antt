@@ -2,7 +2,7 @@
 use mathlib.Core.Path.{sym, _∙_}
 use native.Mathlib.Omega.{arith}
 use borrow.Author.Needs.{needs}
-use Rattle.points.specs.Rows.{rowsOf}
+use Rattle.points.specs.Inner.{rowsOf}
 use Rattle.tracer.proofs.Steps.{real-of, line-within, trim-among, piece-among, within-side, near-ready, far-ready, near-less, far-less}
 use Rattle.tracer.proofs.Rows.{rows-hold}
 use Rattle.listing.proofs.Texts.{text-scrap, text-nothing, text-piece, text-trim, text-line, earned, near-listable, far-listable}
@@ -40,35 +40,11 @@ list-number-of-requires t c κs = c .before .before .pre .1 .0 .table
 list-choose-requires : (t : ℕ) → list-lts.Need-choose-requires (list-calls t) (list-at t) list.Post
 list-choose-requires t c κs = c .before .before .before .pre .1 .0
 
-list-enum-told : (t : ℕ) → list-lts.Need-enum-told (list-calls t) (list-at t) list.Post
-list-enum-told t c = search needs
-
-list-put-line-requires : (t : ℕ) → list-lts.Need-put-line-requires (list-calls t) (list-at t) list.Post
-list-put-line-requires t c κs = search needs
-
-list-enum-known-choice : (t : ℕ) → list-lts.Need-enum-known-choice (list-calls t) (list-at t) list.Post
-list-enum-known-choice t c = search needs
-
 list-add-put-line : (t : ℕ) → list-lts.Need-add-put-line (list-calls t) (list-at t) list.Post
 unfolding rowsOf
 list-add-put-line t c =
     let small : c .before .before .choice .given .0 .0 < 64 = piece-among _ _ _ (c .before .before .before .before .before .before .before .before .pre .1 .0 .few) (sym (c .before .before .before .before .choose .ensures) ∙ c .before .before .choice .given .1) in
     omega arith
-
-list-put-line-requires-2 : (t : ℕ) → list-lts.Need-put-line-requires-2 (list-calls t) (list-at t) list.Post
-list-put-line-requires-2 t c κs = search needs
-
-list-enum-known-choice-2 : (t : ℕ) → list-lts.Need-enum-known-choice-2 (list-calls t) (list-at t) list.Post
-list-enum-known-choice-2 t c = search needs
-
-list-kind-of-requires : (t : ℕ) → list-lts.Need-kind-of-requires (list-calls t) (list-at t) list.Post
-list-kind-of-requires t c κs = search needs
-
-list-put-line-requires-3 : (t : ℕ) → list-lts.Need-put-line-requires-3 (list-calls t) (list-at t) list.Post
-list-put-line-requires-3 t c κs = search needs
-
-list-near-requires : (t : ℕ) → list-lts.Need-near-requires (list-calls t) (list-at t) list.Post
-list-near-requires t c κs = search needs
 
 list-add-list : (t : ℕ) → list-lts.Need-add-list (list-calls t) (list-at t) list.Post
 list-add-list t c = omega (arith, c .before .before .before .before .before .before .before .before .before .before .before .before .before .pre .1 .1 .low)
@@ -85,79 +61,25 @@ list-add-list-2 t c = omega (arith, c .before .before .before .before .before .b
 list-list-requires-2 : (t : ℕ) → list-lts.Need-list-requires-2 (list-calls t) (list-at t) list.Post
 list-list-requires-2 t c κs = (far-less (c .before .before .before .before .before .before .before .before .before .before .before .before .before .before .before .before .before .before .before .pre .1 .0) (c .before .far .ensures) (line-within _ _ _ (sym (c .before .before .before .before .before .before .before .before .before .before .before .before .before .before .before .choose .ensures) ∙ c .before .before .before .before .before .before .before .before .before .before .before .before .before .choice2 .given .1)) (c .before .before .before .before .before .before .before .before .before .before .before .before .before .before .before .before .before .before .before .pre .0), (far-ready (c .before .before .before .before .before .before .before .before .before .before .before .before .before .before .before .before .before .before .before .pre .1 .0) (c .before .far .ensures) (line-within _ _ _ (sym (c .before .before .before .before .before .before .before .before .before .before .before .before .before .before .before .choose .ensures) ∙ c .before .before .before .before .before .before .before .before .before .before .before .before .before .choice2 .given .1)), far-listable (c .before .before .before .before .before .before .before .before .before .before .before .before .before .before .before .before .before .before .before .pre .1 .1) (c .before .before .before .before .before .before .before .before .before .before .before .before .before .before .before .before .before .before .before .pre .1 .0) (sym (c .before .before .before .before .before .before .before .before .before .before .before .before .before .before .before .choose .ensures) ∙ c .before .before .before .before .before .before .before .before .before .before .before .before .before .choice2 .given .1) (c .before .far .ensures)))
 
-list-enum-known-choice-3 : (t : ℕ) → list-lts.Need-enum-known-choice-3 (list-calls t) (list-at t) list.Post
-list-enum-known-choice-3 t c = search needs
-
 list-list-piece-out-requires : (t : ℕ) → list-lts.Need-list-piece-out-requires (list-calls t) (list-at t) list.Post
 unfolding rowsOf
 list-list-piece-out-requires t c κs = (omega (arith, c .before .before .before .before .before .before .before .before .pre .1 .1 .low, c .before .before .before .before .before .before .before .before .pre .1 .0 .table .inside .widthLeast), trim-among _ _ _ (c .before .before .before .before .before .before .before .before .pre .1 .0 .few) (sym (c .before .before .before .before .choose .ensures) ∙ c .before .before .choice3 .given .1))
 
-list-enum-told-2 : (t : ℕ) → list-lts.Need-enum-told-2 (list-calls t) (list-at t) list.Post
-list-enum-told-2 t c = search needs
-
-list-put-line-requires-4 : (t : ℕ) → list-lts.Need-put-line-requires-4 (list-calls t) (list-at t) list.Post
-list-put-line-requires-4 t c κs = search needs
-
-list-same-length : (t : ℕ) → list-lts.Need-same-length (list-calls t) (list-at t) list.Post
-list-same-length t c = search needs
-
 list-returns : (t : ℕ) → list-lts.Need-returns (list-calls t) (list-at t) list.Post
 list-returns t c = text-scrap _ _ _ _ _ (real-of (c .before .before .before .before .before .before .before .before .before .before .pre .1 .0)) (sym (c .before .before .before .before .before .before .choose .ensures) ∙ c .before .before .before .before .enum-told .given .1) (c .before .before .put-line .ensures)
-
-list-same-length-2 : (t : ℕ) → list-lts.Need-same-length-2 (list-calls t) (list-at t) list.Post
-list-same-length-2 t c = search needs
 
 list-returns-2 : (t : ℕ) → list-lts.Need-returns-2 (list-calls t) (list-at t) list.Post
 list-returns-2 t c = text-piece _ _ _ _ _ (real-of (c .before .before .before .before .before .before .before .before .before .before .before .pre .1 .0)) (sym (c .before .before .before .before .before .before .before .choose .ensures) ∙ c .before .before .before .before .before .choice .given .1) (earned (c .before .before .before .before .before .before .before .before .before .before .before .pre .1 .1) (rows-hold _ _ _ _ _ _) (real-of (c .before .before .before .before .before .before .before .before .before .before .before .pre .1 .0)) (c .before .before .before .before .before .before .before .before .number-of .ensures .0)) (c .before .before .put-line2 .ensures)
 
-list-same-length-3 : (t : ℕ) → list-lts.Need-same-length-3 (list-calls t) (list-at t) list.Post
-list-same-length-3 t c = search needs
-
 list-returns-3 : (t : ℕ) → list-lts.Need-returns-3 (list-calls t) (list-at t) list.Post
 list-returns-3 t c = text-line _ _ _ _ _ (real-of (c .before .before .before .before .before .before .before .before .before .before .before .before .before .before .before .before .before .before .before .before .before .before .pre .1 .0)) (sym (c .before .before .before .before .before .before .before .before .before .before .before .before .before .before .before .before .before .before .choose .ensures) ∙ c .before .before .before .before .before .before .before .before .before .before .before .before .before .before .before .before .choice2 .given .1) (earned (c .before .before .before .before .before .before .before .before .before .before .before .before .before .before .before .before .before .before .before .before .before .before .pre .1 .1) (rows-hold _ _ _ _ _ _) (real-of (c .before .before .before .before .before .before .before .before .before .before .before .before .before .before .before .before .before .before .before .before .before .before .pre .1 .0)) (c .before .before .before .before .before .before .before .before .before .before .before .before .before .before .before .before .before .before .before .number-of .ensures .0)) (c .before .before .before .before .before .before .before .before .before .before .before .before .before .before .kind-of .ensures) (c .before .before .before .before .before .before .before .before .before .near .ensures) (c .before .before .before .before .far .ensures) (c .before .before .before .before .before .before .before .before .before .before .before .before .put-line3 .ensures) (c .before .before .before .before .before .before .before .list .ensures) (c .before .before .list2 .ensures)
-
-list-same-length-4 : (t : ℕ) → list-lts.Need-same-length-4 (list-calls t) (list-at t) list.Post
-list-same-length-4 t c = search needs
 
 list-returns-4 : (t : ℕ) → list-lts.Need-returns-4 (list-calls t) (list-at t) list.Post
 unfolding rowsOf
 list-returns-4 t c = text-trim _ _ _ _ _ (real-of (c .before .before .before .before .before .before .before .before .before .before .before .pre .1 .0)) (sym (c .before .before .before .before .before .before .before .choose .ensures) ∙ c .before .before .before .before .before .choice3 .given .1) (earned (c .before .before .before .before .before .before .before .before .before .before .before .pre .1 .1) (rows-hold _ _ _ _ (c .before .before .before .before .before .before .before .before .before .before .before .args .across .now) (c .before .before .before .before .before .before .before .before .before .before .before .args .up .now)) (real-of (c .before .before .before .before .before .before .before .before .before .before .before .pre .1 .0)) (c .before .before .before .before .before .before .before .before .number-of .ensures .0)) (c .before .before .list-piece-out .ensures)
 
-list-same-length-5 : (t : ℕ) → list-lts.Need-same-length-5 (list-calls t) (list-at t) list.Post
-list-same-length-5 t c = search needs
-
 list-returns-5 : (t : ℕ) → list-lts.Need-returns-5 (list-calls t) (list-at t) list.Post
 list-returns-5 t c = text-nothing _ _ _ _ _ (real-of (c .before .before .before .before .before .before .before .before .before .before .pre .1 .0)) (sym (c .before .before .before .before .before .before .choose .ensures) ∙ c .before .before .before .before .enum-told2 .given .1) (c .before .before .put-line4 .ensures)
 
 pub +list-spec : {M : Type 1} → statement M
-+list-spec = close μ-list λ t. list-lts.spec (list-calls t) (list-at t) list.Post
-    (list-number-of-requires t)
-    (list-choose-requires t)
-    (list-enum-told t)
-    (list-put-line-requires t)
-    (list-enum-known-choice t)
-    (list-add-put-line t)
-    (list-put-line-requires-2 t)
-    (list-enum-known-choice-2 t)
-    (list-kind-of-requires t)
-    (list-put-line-requires-3 t)
-    (list-near-requires t)
-    (list-add-list t)
-    (list-list-requires t)
-    (list-far-requires t)
-    (list-add-list-2 t)
-    (list-list-requires-2 t)
-    (list-enum-known-choice-3 t)
-    (list-list-piece-out-requires t)
-    (list-enum-told-2 t)
-    (list-put-line-requires-4 t)
-    (list-same-length t)
-    (list-returns t)
-    (list-same-length-2 t)
-    (list-returns-2 t)
-    (list-same-length-3 t)
-    (list-returns-3 t)
-    (list-same-length-4 t)
-    (list-returns-4 t)
-    (list-same-length-5 t)
-    (list-returns-5 t)
++list-spec = close μ-list λ t. list-lts.spec (list-calls t) (list-at t) list.Post (list-number-of-requires t) (list-choose-requires t) (λ c. search needs) (λ c κs. search needs) (λ c. search needs) (list-add-put-line t) (λ c κs. search needs) (λ c. search needs) (λ c κs. search needs) (λ c κs. search needs) (λ c κs. search needs) (list-add-list t) (list-list-requires t) (list-far-requires t) (list-add-list-2 t) (list-list-requires-2 t) (λ c. search needs) (list-list-piece-out-requires t) (λ c. search needs) (λ c κs. search needs) (λ c. search needs) (list-returns t) (λ c. search needs) (list-returns-2 t) (λ c. search needs) (list-returns-3 t) (λ c. search needs) (list-returns-4 t) (λ c. search needs) (list-returns-5 t)

@@ -1,10 +1,8 @@
 -- `kind_of` meets its contract.
 use mathlib.Core.Path.{sym, ap}
-use Rattle.listing.specs.Listing.{kindOf}
+use Rattle.listing.specs.Inner.{kindOf}
 use Rattle.listing.proofs.tree.kind_of.Statement.{statement}
 use Rattle.listing.proofs.tree.kind_of.Tie as tie
-use Rattle.listing.proofs.tree.kind_of.Reads as reads
-use Rattle.listing.proofs.tree.kind_of.Lts as lts
 
 returns : tie.Need-returns
 unfolding kindOf

@@ -4,7 +4,7 @@ use native.Mathlib.Omega.{arith}
 use Rattle.desk.proofs.Chain.{first-refuses, first-passes, unless-no, unless-yes, if-yes, if-no}
 use Rattle.desk.proofs.Exactly.{box-holds, box-test}
 use Rattle.plan.proofs.Exactly.{empty-test}
-use Rattle.plan.specs.Refusals.{boxRefused}
+use Rattle.plan.specs.Inner.{boxRefused}
 use borrow.Author.Needs.{needs}
 use Rattle.plan.proofs.refusal.box_refused.Statement.{statement}
 use Rattle.plan.proofs.refusal.box_refused.Tie as tie

@@ -1,7 +1,7 @@
 -- `plan_refused` goes along its chain.
 use Rattle.desk.proofs.Chain.{first-refuses, first-passes}
 use Rattle.plan.proofs.Exactly.{readable-of}
-use Rattle.plan.specs.Refusals.{planRefused}
+use Rattle.plan.specs.Inner.{planRefused}
 use borrow.Author.Needs.{needs}
 use Rattle.plan.proofs.refusal.plan_refused.Statement.{statement}
 use Rattle.plan.proofs.refusal.plan_refused.Tie as tie

@@ -8,9 +8,6 @@ use Rattle.program.specs.Entry.{addedAll}
 use Rattle.program.proofs.Entered.{added-more, added-end}
 use Rattle.program.proofs.entry.add_all.Statement.{statement}
 use Rattle.program.proofs.entry.add_all.Tie as tie
-use Rattle.program.proofs.entry.add_all.Reads as reads
-use Rattle.program.proofs.entry.add_all.Lts as lts
-use Rattle.program.proofs.entry.add_next.Reads as add-next-reads
 
 abbrev Inv-loop : tie.InvT-loop
 Inv-loop count cells₀ pieces answer₀ k₀ cells answer k =
@@ -22,21 +19,6 @@ abbrev μ-loop : tie.MeasureT-loop
 loop-holds : tie.Need-loop-holds Inv-loop μ-loop
 unfolding addedAll
 loop-holds c = (omega arith, refl, (refl, refl))
-
-mul-add-next : tie.Need-mul-add-next Inv-loop μ-loop
-mul-add-next c = omega arith
-
-array-copy-out-add-next : tie.Need-array-copy-out-add-next Inv-loop μ-loop
-array-copy-out-add-next c = omega arith
-
-add-next-requires : tie.Need-add-next-requires Inv-loop μ-loop
-add-next-requires c κs = search needs
-
-add-k : tie.Need-add-k Inv-loop μ-loop
-add-k c = omega arith
-
-loop-less : tie.Need-loop-less Inv-loop μ-loop
-loop-less c = omega arith
 
 loop-again : tie.Need-loop-again Inv-loop μ-loop
 loop-again c = (omega arith, c .before .before .add-next .kept .1 .0 ∙ c .before .before .before .before .before .before .loop .inv .1, added-more _ _ _ _ (c .before .before .before .before .before .before .loop .inv .2 .0) (c .before .before .before .before .before .before .loop .inv .2 .1) (c .before .before .add-next .ensures .0) (c .before .before .add-next .ensures .1))
@@ -50,17 +32,4 @@ returns c =
     added-end _ _ _ h (c .before .loop .inv .2)
 
 pub add-all-spec : {M : Type 1} → statement M
-add-all-spec =
-    tie.close
-    (tie.spec
-    Inv-loop
-    μ-loop
-    loop-holds
-    mul-add-next
-    array-copy-out-add-next
-    add-next-requires
-    add-k
-    loop-less
-    loop-again
-    same-length
-    returns)
+add-all-spec = tie.close (tie.spec Inv-loop μ-loop loop-holds (λ c. omega arith) (λ c. omega arith) (λ c κs. search needs) (λ c. omega arith) (λ c. omega arith) loop-again same-length returns)

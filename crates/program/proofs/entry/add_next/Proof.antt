@@ -5,23 +5,14 @@ use Rattle.program.specs.Entry.{addedTo, addedToCells}
 use borrow.Author.Needs.{needs}
 use Rattle.program.proofs.entry.add_next.Statement.{statement}
 use Rattle.program.proofs.entry.add_next.Tie as tie
-use Rattle.program.proofs.entry.add_next.Reads as reads
-use Rattle.program.proofs.entry.add_next.Lts as lts
-use Rattle.desk.proofs.change.add.Reads as add-reads
 
 returns : tie.Need-returns
 unfolding addedTo addedToCells
 returns c = (left-as-it-was _ _ refl (c .if1 .taken), left-as-it-was _ _ refl (c .if1 .taken))
-
-add-requires : tie.Need-add-requires
-add-requires c κs = search needs
-
-same-length : tie.Need-same-length
-same-length c = search needs
 
 returns-2 : tie.Need-returns-2
 unfolding addedTo addedToCells
 returns-2 c = (c .before .before .add .ensures .0 ∙ given _ _ refl (c .before .before .before .before .before .if1 .left), c .before .before .add .ensures .1 ∙ given _ _ refl (c .before .before .before .before .before .if1 .left))
 
 pub add-next-spec : {M : Type 1} → statement M
-add-next-spec = tie.close (tie.spec returns add-requires same-length returns-2)
+add-next-spec = tie.close (tie.spec returns (λ c κs. search needs) (λ c. search needs) returns-2)

@@ -1,11 +1,13 @@
--- What reading the nodes means: "A part is read and, if it is a line, its two parts are read by the same rules."
-use Prim.Native.Nat.{ℕ, zero, suc, _+_, _-_, _*_, _^_, _≤_, _<_}
-use mathlib.Core.Bool.{Bool, cond, _&&_}
+-- The reading of nodes as it computes; nobody has to believe it: `exactly` says that it reads what `ReadAs` says.
+use Prim.Native.Nat.{ℕ, _<_, zero, suc, _+_, _-_, _*_, _^_, _≤_}
 use mathlib.Core.List.{List}
-use lib.ListN.{length, getD}
+use mathlib.Core.Bool.{Bool, cond, _&&_}
+use lib.ListN.{getD, length}
 use lib.Dec.{leb, eqb}
-use Rattle.cutting.specs.Limits.{sideMax, piecesMax}
+use Rattle.cutting.specs.Tree.{Tree}
+use Rattle.laws.specs.ByIndex.{byIndex}
 use Rattle.cutting.specs.Piece.{Piece, pieceAt, Lays, InRange}
+use Rattle.cutting.specs.Limits.{sideMax, piecesMax}
 use Rattle.cutting.specs.Dissection.{rest}
 use Rattle.fields.specs.Number.{number2Of}
 use Rattle.nodes.specs.Encoding.{letterV, letterH, letterP, letterS, nodeLength}
@@ -15,6 +17,21 @@ use Rattle.nodes.specs.declared.Split.{Split}
 use Rattle.nodes.specs.declared.Tally.{Tally}
 use Rattle.nodes.specs.declared.Node.{Node}
 use Rattle.nodes.specs.declared.Part.{Part}
+
+-- Each number of the tree has its two bytes.
+unfoldable pub Written : Tree → Type 0
+Written (Tree.lineV c s t) = (c < 65_536) × Written s × Written t
+Written (Tree.lineH d s t) = (d < 65_536) × Written s × Written t
+Written (Tree.pieceP k) = k < 65_536
+Written Tree.scrapS = Unit {0}
+
+-- The pieces as the reader is lent them: a row of widths, one of heights, one of values.
+
+-- The first `count` pieces of the rows.
+unfoldable pub rows : List ℕ → List ℕ → List ℕ → ℕ → List Piece
+rows widths heights values count = byIndex (λ k. record { width = getD widths k 0; height = getD heights k 0; value = getD values k 0 }) count
+
+-- What reading the nodes means: "A part is read and, if it is a line, its two parts are read by the same rules."
 
 abbrev pub area : Sides → ℕ
 area r = r .width * r .height

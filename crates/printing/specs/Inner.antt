@@ -1,4 +1,4 @@
--- What writing does to a row of bytes, as far as there is room.
+-- What only contracts inside and proofs need: text in a row of bytes, as far as there is room.
 use Prim.Native.Nat.{ℕ, _+_, _-_}
 use mathlib.Core.Path.{_≡_}
 use mathlib.Core.List.{List}

@@ -1,12 +1,14 @@
--- The best value by trying every line: an executable definition, slow and plain. It is proved to be the best value.
-use Prim.Native.Nat.{ℕ, zero, suc, _+_, _-_, max}
-use mathlib.Core.Bool.{cond, _&&_}
+-- What only proofs need; nobody has to believe it. `bestValue` computes the best value of a sheet (`bestValue-best`).
+use Prim.Native.Nat.{ℕ, _+_, zero, suc, _-_, max}
 use mathlib.Core.List.{List}
+use mathlib.Core.Bool.{cond, _&&_}
 use lib.Dec.{eqb}
 use lib.ListN.{length, getD}
-use Rattle.laws.specs.Below.{bestBelow}
+use Rattle.laws.specs.Inner.{bestBelow}
 use Rattle.cutting.specs.Piece.{Piece, noPiece}
 use Rattle.cutting.specs.Dissection.{rest}
+
+-- The best value by trying every line: an executable definition, slow and plain. It is proved to be the best value.
 
 -- What a piece earns on exactly this rectangle: its value where the size is right, else 0.
 unfoldable pub exactly : Piece → ℕ → ℕ → ℕ
@@ -16,7 +18,7 @@ exactly piece x y = cond (eqb (piece .width) x && eqb (piece .height) y) (piece 
 unfoldable pub exactValue : List Piece → ℕ → ℕ → ℕ
 exactValue pieces x y = bestBelow (λ i. exactly (getD pieces i noPiece) x y) (length pieces)
 
--- The most over the lines at 1, …, x − 1 through a side x, where a line's two parts earn `near c + far (x − c)`.
+-- The most over the lines at 1, …, x − 1 through a side x, where a line's two parts earn `part c + part (x − c)`.
 abbrev pub everyLine : (ℕ → ℕ) → ℕ → ℕ
 everyLine part x = bestBelow (λ i. part (suc i) + part (rest x (suc i))) (x - 1)
 

@@ -1,0 +1,74 @@
+-- What only contracts inside and proofs need; nobody has to believe it. Rows that compute are tied to `Empties` by `empties-exactly`.
+use Prim.Native.Nat.{ℕ, _+_, _*_, _/_, _%_, _≤_, suc}
+use mathlib.Core.Bool.{cond, Bool, _&&_, true, false, not}
+use mathlib.Core.List.{List}
+use lib.ListN.{length, getD}
+use lib.Dec.{ltb, leb, eqb}
+use Rattle.laws.specs.ByIndex.{byIndex}
+use Rattle.cutting.specs.Limits.{sideMax, valueMax}
+use Rattle.laws.specs.Inner.{anyBelow}
+use Rattle.cells.specs.Cells.{empty, cellOf}
+use Rattle.cells.specs.Box.{isEmpty}
+
+-- The row in which each cell (x, y) of the sheet a by b holds `new x y`.
+-- "Entries beyond a·b are no cells of the sheet: they are never written".
+unfoldable pub redrawn : ℕ → ℕ → (ℕ → ℕ → ℕ) → List ℕ → List ℕ
+redrawn a b new t = byIndex (λ i. cond (ltb i (a * b)) (new (i % a + 1) (i / a + 1)) (getD t i empty)) (length t)
+
+-- The row t has room for the cells of a sheet a by b whose sides are in range. Every function of the crate asks for it.
+pub record Holds (a b : ℕ) (t : List ℕ) : Type 0 where
+  pub widthLeast : 1 ≤ a
+  pub widthMost : a ≤ sideMax
+  pub heightLeast : 1 ≤ b
+  pub heightMost : b ≤ sideMax
+  pub room : a * b ≤ length t
+
+-- The row with "exactly the cells (x, y) where" `struck x y` emptied.
+unfoldable pub emptiedWhere : ℕ → ℕ → (ℕ → ℕ → Bool) → List ℕ → List ℕ
+emptiedWhere a b struck t = redrawn a b (λ x y. cond (struck x y) empty (cellOf a t x y)) t
+
+-- A size p by q "fits, p ≤ x and q ≤ y".
+unfoldable pub fits : ℕ → ℕ → ℕ → ℕ → Bool
+fits p q x y = leb p x && leb q y
+
+-- "Each empties exactly the cells (x, y) where the .. size .. fits". Every cell has room for 1 by 1:
+-- "Open a, b: empties the first a·b cells" is `emptied a b 1 1`.
+unfoldable pub emptied : ℕ → ℕ → ℕ → ℕ → List ℕ → List ℕ
+emptied a b p q t = emptiedWhere a b (fits p q) t
+
+-- How far the loops have come:
+
+-- Is l ≤ k < h?
+unfoldable pub between : ℕ → ℕ → ℕ → Bool
+between l h k = leb l k && ltb k h
+
+-- The columns from p and before x, of the rows from q and before y.
+unfoldable pub block : ℕ → ℕ → ℕ → ℕ → ℕ → ℕ → Bool
+block p x q y u w = between p x u && between q y w
+
+-- The columns from p on, of row y.
+abbrev pub rowFrom : ℕ → ℕ → ℕ → ℕ → ℕ → Bool
+rowFrom a p y = block p (a + 1) y (y + 1)
+
+-- Tests over a box: the cells (u, w) "with u ≤ x and w ≤ y".
+
+-- Is the test true of some cell of row w, in columns 1 to x?
+unfoldable pub anyInRow : ℕ → ℕ → (ℕ → ℕ → Bool) → Bool
+anyInRow x w test = anyBelow (λ i. test (suc i) w) x
+
+-- Is the test true of some cell of the box?
+unfoldable pub anyInBox : ℕ → ℕ → (ℕ → ℕ → Bool) → Bool
+anyInBox x y test = anyBelow (λ j. anyInRow x (suc j) test) y
+
+-- Does the number v of a cell (u, w) exceed what the area may earn? An empty cell's does not.
+unfoldable pub tooMuch : ℕ → ℕ → ℕ → Bool
+tooMuch v u w = not (eqb v empty) && ltb (u * w * valueMax) v
+
+-- "a non-empty cell (u, w) in the box exceeds u·w·65,535"
+unfoldable pub exceeds : ℕ → List ℕ → ℕ → ℕ → Bool
+exceeds a t u w = tooMuch (cellOf a t u w) u w
+
+-- What a walk over a box looks for: an empty cell, or else one that exceeds.
+unfoldable pub sought : Bool → ℕ → List ℕ → ℕ → ℕ → Bool
+sought true = isEmpty
+sought false = exceeds

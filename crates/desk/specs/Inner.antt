@@ -1,0 +1,141 @@
+-- The calls as they compute; nobody has to believe it: `open-exactly` to `ask-exactly` (proofs/Words) say that they are the words.
+use Prim.Native.Nat.{ℕ, zero, suc, _*_}
+use mathlib.Core.Bool.{cond, _&&_, _||_}
+use mathlib.Core.List.{List, []}
+use mathlib.Core.Path.{_≡_}
+use lib.Dec.{ltb, eqb}
+use lib.ListN.{length, getD}
+use Rattle.cutting.specs.Limits.{sideMax, piecesMax}
+use Rattle.cells.specs.Cells.{cellOf}
+use Rattle.cells.specs.Inner.{exceeds, anyInBox, fits, emptied, emptiedWhere}
+use Rattle.job.specs.declared.Piece.{Piece as Record}
+use Rattle.job.specs.declared.Job.{Job}
+use Rattle.job.specs.Inner.{within, pieceInRange, jobInRange, rowOf}
+use Rattle.job.specs.Job.{jobOf, zeroJob, piecesOf}
+use Rattle.job.specs.Change.{withAdded, withCorrected, withRemoved}
+use Rattle.cells.specs.Box.{isEmpty, countInBox}
+use Rattle.points.specs.Inner.{marksOf, Rows, rowsOf}
+use Rattle.fill.specs.Inner.{filled}
+use Rattle.cutting.specs.Piece.{Piece}
+use Rattle.desk.specs.declared.Changed.{Changed}
+use Rattle.desk.specs.declared.Asked.{Asked}
+use Rattle.desk.specs.declared.Asked.the-variants.{Answered, Refused}
+use Rattle.desk.specs.Changing.{recordOfPiece}
+use Rattle.desk.specs.Refusals.{badJob, shortTable, notInside, badPiece, fullJob, alienTable, area}
+
+-- "Numbers we refuse with. Checked in the order of the numbers. An accepted call has number 0."
+
+-- The first refusal, or else the later one.
+unfoldable pub orElse : ℕ → ℕ → ℕ
+orElse zero later = later
+orElse (suc k) later = suc k
+
+-- What an accepted call (number 0) gives, or else what a refused one leaves.
+unfoldable pub accepted {ℓ} : {A : Type ℓ} → ℕ → A → A → A
+accepted zero given left = given
+accepted (suc k) given left = left
+
+-- Refusals 1 and 2 of every call on a job.
+unfoldable pub jobRefused : Job → List ℕ → ℕ
+jobRefused = λ job t. orElse (cond (jobInRange job) 0 badJob) (cond (ltb (length t) (area job)) shortTable 0)
+
+unfoldable pub openRefused : ℕ → ℕ → List ℕ → ℕ
+openRefused a b t = orElse (cond (within a sideMax && within b sideMax) 0 badJob) (cond (ltb (length t) (a * b)) shortTable 0)
+
+unfoldable pub addRefused : Job → List ℕ → Record → ℕ
+addRefused = λ job t piece.
+    orElse (jobRefused job t) (orElse (cond (pieceInRange piece) 0 badPiece) (cond (eqb (job .count) piecesMax) fullJob 0))
+
+unfoldable pub removeRefused : Job → List ℕ → ℕ → ℕ
+removeRefused = λ job t k. orElse (jobRefused job t) (cond (within k (job .count)) 0 notInside)
+
+unfoldable pub correctRefused : Job → List ℕ → ℕ → Record → ℕ
+correctRefused = λ job t k piece. orElse (removeRefused job t k) (cond (pieceInRange piece) 0 badPiece)
+
+unfoldable pub askRefused : Job → List ℕ → ℕ → ℕ → ℕ
+askRefused = λ job t x y.
+    orElse (jobRefused job t) (orElse (cond (within x (job .width) && within y (job .height)) 0 notInside) (cond (anyInBox x y (exceeds (job .width) t)) alienTable 0))
+
+-- "Open a, b", "Add, correct piece k, remove piece k": answer, job and all cells.
+
+-- The answer of a change: its number, and the job after it, or, where it is refused, the job that is left.
+abbrev pub changed : ℕ → Job → Job → Changed
+changed refusal after left = record { refusal = refusal; job = accepted refusal after left }
+
+unfoldable pub opened : ℕ → ℕ → List ℕ → Changed
+opened a b t = changed (openRefused a b t) (jobOf a b []) zeroJob
+
+unfoldable pub openedCells : ℕ → ℕ → List ℕ → List ℕ
+openedCells a b t = accepted (openRefused a b t) (emptied a b 1 1 t) t
+
+-- The cells of a job's sheet where a size fits, emptied.
+unfoldable pub emptiedSize : Job → Record → List ℕ → List ℕ
+emptiedSize job size t = emptied (job .width) (job .height) (size .width) (size .height) t
+
+unfoldable pub addedJob : Job → List ℕ → Record → Changed
+addedJob job t piece = changed (addRefused job t piece) (withAdded job piece) job
+
+unfoldable pub addedCells : Job → List ℕ → Record → List ℕ
+addedCells job t piece = accepted (addRefused job t piece) (emptiedSize job piece t) t
+
+unfoldable pub correctedJob : Job → List ℕ → ℕ → Record → Changed
+correctedJob job t k piece = changed (correctRefused job t k piece) (withCorrected job k piece) job
+
+unfoldable pub correctedCells : Job → List ℕ → ℕ → Record → List ℕ
+correctedCells job t k piece =
+    let old = recordOfPiece job k in
+    accepted (correctRefused job t k piece)
+    (emptiedWhere (job .width) (job .height) (λ x y. fits (old .width) (old .height) x y || fits (piece .width) (piece .height) x y) t)
+    t
+
+unfoldable pub removedJob : Job → List ℕ → ℕ → Changed
+removedJob job t k = changed (removeRefused job t k) (withRemoved job k) job
+
+unfoldable pub removedCells : Job → List ℕ → ℕ → List ℕ
+removedCells job t k = accepted (removeRefused job t k) (emptiedSize job (recordOfPiece job k) t) t
+
+-- "Ask x, y": the answer and all cells.
+
+-- The answer with these numbers.
+abbrev pub answerWith : ℕ → ℕ → ℕ → Asked
+answerWith zero value worked = Answered value worked
+answerWith (suc k) value worked = Refused (suc k)
+
+-- What the filling reads of a job: its pieces as rows, and the marks of P and Q.
+unfoldable pub rowsOfPieces : List Piece → ℕ → ℕ → ℕ → Rows
+rowsOfPieces pieces n a b =
+    let widths = rowOf (λ p. p .width) pieces in
+    let heights = rowOf (λ p. p .height) pieces in
+    rowsOf n widths heights (rowOf (λ p. p .value) pieces) (marksOf (λ k. getD widths k 0) n a) (marksOf (λ k. getD heights k 0) n b)
+
+unfoldable pub jobRows : Job → Rows
+jobRows job = rowsOfPieces (piecesOf job) (job .count) (job .width) (job .height)
+
+-- The table after the question.
+unfoldable pub filledFor : Job → List ℕ → ℕ → ℕ → List ℕ
+filledFor job t x y = filled (jobRows job) (job .width) (job .height) x y t
+
+unfoldable pub asked : Job → List ℕ → ℕ → ℕ → Asked
+asked job t x y =
+    answerWith (askRefused job t x y) (cellOf (job .width) (filledFor job t x y) x y) (countInBox x y (isEmpty (job .width) t))
+
+unfoldable pub askedCells : Job → List ℕ → ℕ → ℕ → List ℕ
+askedCells job t x y = accepted (askRefused job t x y) (filledFor job t x y) t
+
+-- The promise of each call, for all input: r is its answer, and t' is what the table t holds then. As equations here, for the
+-- contracts; in the document's words `Opens`, `Adds`, `Corrects`, `Removes` and `Asks`. proofs/Words says that both are the same.
+
+abbrev pub OpenPromise : ℕ → ℕ → List ℕ → Changed → List ℕ → Type 0
+OpenPromise a b t r t' = (r ≡ opened a b t) × (t' ≡ openedCells a b t)
+
+abbrev pub AddPromise : Job → List ℕ → Record → Changed → List ℕ → Type 0
+AddPromise job t piece r t' = (r ≡ addedJob job t piece) × (t' ≡ addedCells job t piece)
+
+abbrev pub CorrectPromise : Job → List ℕ → ℕ → Record → Changed → List ℕ → Type 0
+CorrectPromise job t k piece r t' = (r ≡ correctedJob job t k piece) × (t' ≡ correctedCells job t k piece)
+
+abbrev pub RemovePromise : Job → List ℕ → ℕ → Changed → List ℕ → Type 0
+RemovePromise job t k r t' = (r ≡ removedJob job t k) × (t' ≡ removedCells job t k)
+
+abbrev pub AskPromise : Job → List ℕ → ℕ → ℕ → Asked → List ℕ → Type 0
+AskPromise job t x y r t' = (r ≡ asked job t x y) × (t' ≡ askedCells job t x y)

@@ -1,0 +1,122 @@
+-- The filling as it computes; nobody has to believe it: `fills-exactly` says that it is `Fills`.
+use Prim.Native.Nat.{ℕ, suc, _+_, _/_, _≤_, _<_, max, zero, _*_, _-_}
+use mathlib.Core.Bool.{Bool, cond, _&&_}
+use mathlib.Core.List.{List}
+use mathlib.Core.Path.{_≡_}
+use lib.Dec.{leb, eqb}
+use lib.ListN.{getD, set}
+use Rattle.laws.specs.Inner.{bestBelow}
+use Rattle.cutting.specs.Dissection.{rest, Line}
+use Rattle.cells.specs.Cells.{cellOf, empty, place}
+use Rattle.cells.specs.Inner.{Holds, fits, redrawn}
+use Rattle.points.specs.Inner.{Rows}
+use Rattle.cells.specs.Box.{isEmpty}
+use Rattle.cutting.specs.Limits.{valueMax}
+use Rattle.cutting.specs.Piece.{Inside}
+use Rattle.cutting.specs.Candidate.{Smaller}
+use Rattle.fill.specs.Filled.{Full, Bounded}
+
+-- What an empty cell gets: "the largest of: 0; v of a piece with p ≤ u and q ≤ w; cell (c, w) plus cell (u−c, w) for c in P
+-- with c ≤ u/2; cell (u, d) plus cell (u, w−d) for d in Q with d ≤ w/2." Executable; `worthOf-worth` ties it to the candidates.
+
+-- "v of a piece with p ≤ u and q ≤ w", over the pieces at index 0, …, n − 1.
+unfoldable pub fittingValue : (ℕ → ℕ) → (ℕ → ℕ) → (ℕ → ℕ) → ℕ → ℕ → ℕ → ℕ
+fittingValue width height value n u w = bestBelow (λ k. cond (fits (width k) (height k) u w) (value k) 0) n
+
+-- "cell (c, w) plus cell (u−c, w) for c in P": a line at c through a side x, where a part of size c has the number `part c`.
+unfoldable pub lineAt : (ℕ → Bool) → (ℕ → ℕ) → ℕ → ℕ → ℕ
+lineAt marked part x c = cond (marked c) (part c + part (rest x c)) 0
+
+-- ".. with c ≤ u/2"
+unfoldable pub lineValue : (ℕ → Bool) → (ℕ → ℕ) → ℕ → ℕ
+lineValue marked part x = bestBelow (λ i. lineAt marked part x (suc i)) (x / 2)
+
+unfoldable pub worthOf : Rows → (ℕ → ℕ → ℕ) → ℕ → ℕ → ℕ
+worthOf rows cell u w =
+    max (fittingValue (rows .width) (rows .height) (rows .value) (rows .count) u w) (max (lineValue (rows .inP) (λ c. cell c w) u) (lineValue (rows .inQ) (λ d. cell u d) w))
+
+-- The first x cells of row w are in the table, and no two parts of a line across them overflow 32 bits.
+pub record RowLines (a : ℕ) (t : List ℕ) (w x : ℕ) : Type 0 where
+  pub holds : Holds a w t
+  pub wide : x ≤ a
+  pub adds : (c r : ℕ) → Line x c r → cellOf a t c w + cellOf a t r w < 4_294_967_296
+
+-- The floor of a row w: what a cell (u, w) is worth without a line across.
+
+-- A piece's value where it fits in u by w, else 0.
+abbrev pub pieceIn : ℕ → ℕ → ℕ → ℕ → ℕ → ℕ
+pieceIn p q v u w = cond (fits p q u w) v 0
+
+-- f' is f with the columns from..=x raised to g, the others as they were.
+pub record Raises (from x : ℕ) (g : ℕ → ℕ) (f f' : List ℕ) : Type 0 where
+  pub at : (u : ℕ) → getD f' u 0 ≡ cond (leb from u && leb u x) (max (getD f u 0) (g u)) (getD f u 0)
+
+-- The columns from..=x of the floor hold g.
+pub record Columns (from x : ℕ) (g : ℕ → ℕ) (f : List ℕ) : Type 0 where
+  pub at : (u : ℕ) → from ≤ u → u ≤ x → getD f u 0 ≡ g u
+
+-- "v of a piece" or "cell (u, d) plus cell (u, w−d)": everything but the lines across.
+unfoldable pub floorBy : (ℕ → ℕ) → (ℕ → ℕ) → (ℕ → ℕ) → ℕ → (ℕ → Bool) → (ℕ → ℕ → ℕ) → ℕ → ℕ → ℕ
+floorBy width height value n inQ cell w u = max (fittingValue width height value n u w) (lineValue inQ (λ d. cell u d) w)
+
+-- The columns from..=x of a row w: their cells are in the table, and no two parts of a line up overflow 32 bits.
+pub record LinesUp (a : ℕ) (t : List ℕ) (from x w : ℕ) : Type 0 where
+  pub holds : Holds a w t
+  pub least : 1 ≤ from
+  pub wide : x ≤ a
+  pub adds : (u d r : ℕ) → from ≤ u → u ≤ x → Line w d r → cellOf a t u d + cellOf a t u r < 4_294_967_296
+
+-- One cell worked out from its floor and the lines across.
+unfoldable pub cellRaised : ℕ → (ℕ → Bool) → ℕ → ℕ → ℕ → List ℕ → List ℕ
+cellRaised floor inP a u w t =
+    cond (isEmpty a t u w) (set t (place a u w) (max floor (lineValue inP (λ c. cellOf a t c w) u))) t
+
+-- No cell of row w before column `from` is empty, and that is no further than the column after x.
+pub record FullBefore (a : ℕ) (t : List ℕ) (x w from : ℕ) : Type 0 where
+  pub least : 1 ≤ from
+  pub most : from ≤ x + 1
+  pub full : (u : ℕ) → 1 ≤ u → u < from → cellOf a t u w ≡ empty → ⊥
+
+-- "each empty cell (u, w) with u ≤ x and w ≤ y gets the largest of: .. Filled cells and cells outside stay."
+
+-- No order of loops: a cell's final number is its own, or, where it is empty, its worth among the final numbers.
+
+-- The depth k only makes the definition end; `final-own` gives the equation without it.
+unfoldable pub finalWithin : Rows → (ℕ → ℕ → ℕ) → ℕ → ℕ → ℕ → ℕ
+finalWithin rows cell zero u w = cell u w
+finalWithin rows cell (suc k) u w = cond (eqb (cell u w) empty) (worthOf rows (finalWithin rows cell k) u w) (cell u w)
+
+unfoldable pub final : Rows → (ℕ → ℕ → ℕ) → ℕ → ℕ → ℕ
+final rows cell u w = finalWithin rows cell (u + w) u w
+
+-- The table once x by y has been asked: cells (u, w) of the box hold their final number, the others stay.
+unfoldable pub filled : Rows → ℕ → ℕ → ℕ → ℕ → List ℕ → List ℕ
+filled rows a b x y t = redrawn a b (λ u w. cond (fits u w x y) (final rows (cellOf a t) u w) (cellOf a t u w)) t
+
+-- What the filling asks of the table before it works out a cell, a row or a box.
+
+-- The values are in range.
+abbrev pub Valued : Rows → Type 0
+Valued rows = (k : ℕ) → k < rows .count → rows .value k ≤ valueMax
+
+-- The cells that a cell's worth reads are there, and within their bounds.
+pub record Around (a : ℕ) (t : List ℕ) (u w : ℕ) : Type 0 where
+  pub holds : Holds a w t
+  pub least : 1 ≤ u
+  pub wide : u ≤ a
+  pub below : (x y : ℕ) → Smaller x y u w → cellOf a t x y ≤ x * y * valueMax
+
+-- A row can be filled: the rows below it are full, and no cell of the box exceeds its bound.
+pub record RowReady (rows : Rows) (a b x w : ℕ) (t : List ℕ) : Type 0 where
+  pub holds : Holds a b t
+  pub inside : Inside x w a b
+  pub full : Full a t x (w - 1)
+  pub bounded : Bounded (cellOf a t) x w
+  pub valued : Valued rows
+
+-- A box can be filled: no cell of it exceeds its bound (refusal 7).
+pub record BoxReady (rows : Rows) (a b x y : ℕ) (t : List ℕ) : Type 0 where
+  pub holds : Holds a b t
+  pub inside : Inside x y a b
+  pub bounded : Bounded (cellOf a t) x y
+  pub valued : Valued rows

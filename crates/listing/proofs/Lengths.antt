@@ -1,0 +1,74 @@
+-- How long the lines are, and the listing of a tree by the number of its nodes.
+use Prim.Native.Nat.{ℕ, suc, _+_, _*_, _^_, _≤_, _<_}
+use mathlib.Core.Path.{ap}
+use mathlib.Core.List.{List, [], _∷_}
+use native.Mathlib.Omega.{arith}
+use lib.ListN.{length, length-append}
+use Rattle.cutting.specs.Limits.{sideMax}
+use Rattle.cutting.specs.Piece.{Piece, Lays, InRange}
+use Rattle.cutting.specs.Tree.{Tree, Valid, earning, nodes}
+use Rattle.cutting.proofs.Bound.{most-mono, earning-bound}
+use Rattle.cutting.proofs.Tree.{dissection-of}
+use Rattle.printing.specs.Decimal.{decimal}
+use Rattle.printing.proofs.Decimal.{decimal-length}
+use Rattle.listing.specs.Line.{spaced, ended, wordOf, lineText, headText, refusedText}
+use Rattle.listing.specs.Listing.{listing}
+use Rattle.listing.specs.declared.Kind.{Kind}
+
+-- Numbers with as many digits, and what stands behind them.
+spaced-length : (k n : ℕ) → n < 10 ^ suc k → length (spaced n) ≤ suc k + 1
+unfolding spaced
+spaced-length k n h = omega (arith, length-append (decimal n) (32 ∷ []), decimal-length k n h)
+
+ended-length : (k n : ℕ) → n < 10 ^ suc k → length (ended n) ≤ suc k + 1
+unfolding ended
+ended-length k n h = omega (arith, length-append (decimal n) (10 ∷ []), decimal-length k n h)
+
+word-length : (kind : Kind) → length (wordOf kind) ≤ 11
+unfolding wordOf
+word-length Kind.Vertical = omega arith
+word-length Kind.Horizontal = omega arith
+word-length Kind.Piece = omega arith
+word-length Kind.Scrap = omega arith
+
+-- A line: four numbers of three digits and one of ten, a space behind each but the last, the word and the line feed.
+abbrev pub lineMost : ℕ
+lineMost = 38
+
+pub line-length : (level x y e : ℕ) (kind : Kind) (number : ℕ) → level < 1_000 → x < 1_000 → y < 1_000 → e < 10_000_000_000 → number < 1_000 → length (lineText level x y e kind number) ≤ lineMost
+unfolding lineText
+line-length level x y e kind number h i j k l =
+    simp length-append
+    (omega (arith, spaced-length 2 level h, spaced-length 2 x i, spaced-length 2 y j, spaced-length 9 e k, word-length kind, ended-length 2 number l))
+
+-- The first line, with numbers of ten digits; a refusal's, whose number has one.
+abbrev pub headMost : ℕ
+headMost = 35
+
+pub head-length : (value worked : ℕ) → value < 10_000_000_000 → worked < 10_000_000_000 → length (headText value worked) ≤ headMost
+unfolding headText
+head-length value worked h k =
+    simp length-append (omega (arith, spaced-length 9 value h, ended-length 9 worked k))
+
+pub refused-length : (number : ℕ) → number < 10 → length (refusedText number) ≤ headMost
+unfolding refusedText
+refused-length number h = simp length-append (omega (arith, ended-length 0 number h))
+
+-- "one line per node": a tree on a sheet has no longer a listing than its nodes allow.
+module _ {pieces : List Piece} (range : InRange (Lays pieces)) (few : length pieces < 1_000) where
+  top-length : {t : Tree} (level x y : ℕ) (kind : Kind) (number : ℕ) → level + (x + y) < 1_000 → x ≤ sideMax → y ≤ sideMax → number < 1_000 → Valid pieces t x y → length (lineText level x y (earning pieces t) kind number) ≤ lineMost
+  top-length {t} level x y kind number low wide high h v =
+      line-length level x y (earning pieces t) kind number (omega arith) (omega arith) (omega arith)
+      (omega (arith, earning-bound range (dissection-of v), most-mono x y sideMax sideMax wide high))
+      h
+
+  pub listing-length : {t : Tree} (level x y : ℕ) → level + (x + y) < 1_000 → x ≤ sideMax → y ≤ sideMax → Valid pieces t x y → length (listing pieces level t x y) ≤ lineMost * nodes t
+  unfolding listing nodes
+  listing-length level x y low wide high (Valid.lineV {c = c} {r = r} {s = s} {t = t} l v w) =
+      simp length-append
+      (omega (arith, top-length level x y Kind.Vertical c low wide high (omega arith) (Valid.lineV l v w), listing-length (level + 1) c y (omega arith) (omega arith) high v, listing-length (level + 1) r y (omega arith) (omega arith) high w, ap (λ (k : ℕ). length (listing pieces (level + 1) t k y)) (l .leaves)))
+  listing-length level x y low wide high (Valid.lineH {d = d} {r = r} {s = s} {t = t} l v w) =
+      simp length-append
+      (omega (arith, top-length level x y Kind.Horizontal d low wide high (omega arith) (Valid.lineH l v w), listing-length (level + 1) x d (omega arith) wide (omega arith) v, listing-length (level + 1) x r (omega arith) wide (omega arith) w, ap (λ (k : ℕ). length (listing pieces (level + 1) t x k)) (l .leaves)))
+  listing-length level x y low wide high (Valid.pieceP {k = k} n) = omega (arith, top-length level x y Kind.Piece k low wide high (omega (arith, n .last)) (Valid.pieceP n))
+  listing-length level x y low wide high Valid.scrapS = omega (arith, top-length level x y Kind.Scrap 0 low wide high (omega arith) Valid.scrapS)

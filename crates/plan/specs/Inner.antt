@@ -1,0 +1,91 @@
+-- Plan as it computes; nobody has to believe it: `plan-exactly` says that it is `Plans`.
+use Prim.Native.Nat.{ℕ, suc, _≤_, zero, _+_, _*_}
+use mathlib.Core.Bool.{Bool, cond, _&&_, true}
+use mathlib.Core.List.{List}
+use mathlib.Core.Path.{_≡_}
+use lib.Dec.{ltb}
+use lib.ListN.{length}
+use Rattle.cutting.specs.Tree.{Tree}
+use Rattle.cells.specs.Cells.{cellOf, empty}
+use Rattle.job.specs.declared.Job.{Job}
+use Rattle.job.specs.Job.{piecesOf}
+use Rattle.tracer.specs.Inner.{by, traced, traces}
+use Rattle.desk.specs.Inner.{jobRows, orElse, jobRefused, accepted}
+use Rattle.cutting.specs.Piece.{Inside, Lays}
+use Rattle.cells.specs.Box.{isEmpty}
+use Rattle.cells.specs.Inner.{exceeds, anyInBox}
+use Rattle.job.specs.Inner.{within}
+use Rattle.desk.specs.Refusals.{notInside, alienTable}
+use Rattle.laws.specs.Put.{put}
+use Rattle.checker.specs.declared.Checked.{Checked}
+use Rattle.checker.specs.Inner.{checked}
+use Rattle.cutting.specs.Dissection.{Best}
+use Rattle.plan.specs.File.{fileOf}
+use Rattle.plan.specs.Refusals.{Readable, notAsked, shortBuffer}
+use Rattle.plan.specs.declared.Planned.{Planned}
+use Rattle.plan.specs.declared.Planned.the-variants.{Written, Refused}
+
+-- The tree with the job's pieces as rows and its points as marks, whether tree rule 6 strikes nowhere in it, and its
+-- file. `rules-tree` and `tree-by-rules` say that it is the tree by the rules.
+abbrev pub treeFor : Job → List ℕ → ℕ → ℕ → Tree
+treeFor job t x y = traced (jobRows job) (cellOf (job .width) t) (by x y)
+
+abbrev pub tracesFor : Job → List ℕ → ℕ → ℕ → Bool
+tracesFor job t x y = traces (jobRows job) (cellOf (job .width) t) (by x y)
+
+abbrev pub planFile : Job → List ℕ → ℕ → ℕ → List ℕ
+planFile job t x y = fileOf job x y (treeFor job t x y)
+
+-- "Numbers we refuse with", those of plan: "Checked in the order of the numbers."
+
+-- The refusals before the tree: 1, 2, 3, 6 and 7.
+unfoldable pub boxRefused : Job → List ℕ → ℕ → ℕ → ℕ
+boxRefused job t x y =
+    orElse (jobRefused job t)
+    (orElse (cond (within x (job .width) && within y (job .height)) 0 notInside)
+    (orElse (cond (anyInBox x y (isEmpty (job .width) t)) notAsked 0) (cond (anyInBox x y (exceeds (job .width) t)) alienTable 0)))
+
+-- Those of the tree and its file: 7, "for plan also tree rule 6", and 8.
+unfoldable pub fileRefused : Job → List ℕ → ℕ → ℕ → ℕ → ℕ
+fileRefused job t x y room = orElse (cond (tracesFor job t x y) 0 alienTable) (cond (ltb room (length (planFile job t x y))) shortBuffer 0)
+
+-- The buffer has room for so many bytes.
+unfoldable pub planRefused : Job → List ℕ → ℕ → ℕ → ℕ → ℕ
+planRefused job t x y room = orElse (boxRefused job t x y) (fileRefused job t x y room)
+
+-- The answer with these numbers.
+abbrev pub answerWith : ℕ → ℕ → ℕ → Planned
+answerWith zero bytes value = Written bytes value
+answerWith (suc k) bytes value = Refused (suc k)
+
+unfoldable pub planned : Job → List ℕ → ℕ → ℕ → ℕ → Planned
+planned job t x y room = answerWith (planRefused job t x y room) (length (planFile job t x y)) (cellOf (job .width) t x y)
+
+unfoldable pub plannedBytes : Job → List ℕ → ℕ → ℕ → List ℕ → List ℕ
+plannedBytes job t x y o = accepted (planRefused job t x y (length o)) (put o 0 (planFile job t x y)) o
+
+-- What the writing may rely on.
+pub record Ready (job : Job) (t : List ℕ) (x y : ℕ) (o : List ℕ) : Type 0 where
+  pub readable : Readable job t x y
+  pub traces : tracesFor job t x y ≡ true
+  pub room : length (planFile job t x y) ≤ length o
+
+-- The promise of plan, for all input: r is its answer, and o' is what the buffer o holds then. `plan-exactly` says that this is
+-- `Plans`.
+
+abbrev pub PlanPromise : Job → List ℕ → ℕ → ℕ → List ℕ → Planned → List ℕ → Type 0
+PlanPromise job t x y o r o' = (r ≡ planned job t x y (length o)) × (o' ≡ plannedBytes job t x y o)
+
+-- What check makes of a planned file.
+
+-- "check accepts" the file, "with note length 0", this value, and areas that together make x by y.
+pub record AcceptedAs (file : List ℕ) (x y value : ℕ) : Type 0 where
+  pub pieceArea : ℕ
+  pub scrapArea : ℕ
+  pub answer : checked file ≡ Checked.Accepted value 0 pieceArea scrapArea
+  pub areas : pieceArea + scrapArea ≡ x * y
+
+-- Every filled cell of the sheet holds its best value.
+abbrev pub HoldsBest : Job → List ℕ → Type 0
+HoldsBest job t =
+    (u w : ℕ) → Inside u w (job .width) (job .height) → (cellOf (job .width) t u w ≡ empty → ⊥) → Best (Lays (piecesOf job)) u w (cellOf (job .width) t u w)

@@ -1,0 +1,17 @@
+-- The program's sizes, which the code has as constants.
+use Prim.Native.Nat.{ℕ}
+
+-- "Its table has 16,384 cells, its plan buffer 32,768 bytes."
+abbrev pub tableCells : ℕ
+tableCells = 16_384
+
+abbrev pub planRoom : ℕ
+planRoom = 32_768
+
+-- No text is longer (`text-fits`): a first line of 35 bytes, and 10,915 lines of 38.
+abbrev pub textMost : ℕ
+textMost = 414_805
+
+-- One byte more than the longest block has: what comes after it changes nothing (`input-enough`).
+abbrev pub inputMost : ℕ
+inputMost = 391

@@ -28,6 +28,8 @@ SAME((int)KHON_FILE_MAX, (int)REF_FILE_MAX);
 SAME(KHON_EMPTY, REF_EMPTY);
 SAME(KHON_BLOCK_LENGTH(KHON_PIECES_MAX), (size_t)REF_BLOCK_MAX);
 SAME(KHON_PLAN_ENOUGH(KHON_PIECES_MAX, KHON_SIDE_MAX, KHON_SIDE_MAX), (size_t)REF_PLAN_MAX);
+SAME(KHON_PLAN_ENOUGH(0, 1, 1), (size_t)25);          /* K4's file */
+SAME(KHON_PLAN_ENOUGH(1, 240, 240), (size_t)345625);   /* the largest plan of one piece */
 SAME(KHON_CELL(7, 3, 2), (size_t)9);
 
 const face the_reference = {"reference", ref_open, ref_add,  ref_correct,

@@ -1,5 +1,5 @@
 -- DEMAND 1, call by call: the number is the list's and no other, and a refusal leaves job, cells and bytes and answers zeros.
-use Prim.Native.Nat.{ℕ, suc, _≤_}
+use Prim.Native.Nat.{ℕ, _≤_}
 use native.Mathlib.Omega.{arith}
 use mathlib.Core.List.{List, []}
 use mathlib.Core.Path.{_≡_, refl, sym, ap, _∙_, subst}
@@ -39,17 +39,20 @@ use Rattle.khonvertseg.specs.Flat.{flatChanged, flatAsked, flatPlanned, flatChe
 use Rattle.khonvertseg.specs.Calls.{Laid, WithBlock, KhonOpens, KhonAdds, KhonCorrects, KhonRemoves, AsksBlock, KhonAsks, PlansBlock, KhonPlans, KhonChecks}
 use Rattle.demands.specs.Refuses.{Refuses, BlockRefusal, CheckRefusal}
 
--- Of a list that gives one number only, what is given is that number.
+-- A list that gives one number only, and one that it gives.
 abbrev Single : (ℕ → Type 0) → Type 0
 Single list = (j k : ℕ) → list j → list k → j ≡ k
+
+listed : {list : ℕ → Type 0} {number : ℕ} {untouched : Type 0} → Single list → list number → ((number ≡ 0 → ⊥) → untouched) → Refuses list number untouched
+listed {number = number} one q leaves = record { given = q; only = λ k g. one k number g q; leaves = leaves }
 
 -- A change.
 changes : {a b : ℕ} {refusal : ℕ → Type 0} {hit : ℕ → ℕ → Type 0} {after left : Job} {t t' : List ℕ} {r : KhonChanged} → Single refusal → Laid flatChanged (λ c. Changes a b refusal hit after left t c t') r → Refuses refusal (r .refusal) ((r .job ≡ left) × (t' ≡ t))
 changes {a} {b} {refusal} {hit} {after} {left} {t} {t'} one l = subst (λ (r : KhonChanged). Refuses refusal (r .refusal) ((r .job ≡ left) × (t' ≡ t))) (sym (l .laid)) (by (l .keeps))
   where
     by : {c : Changed} {l' : List ℕ} → Changes a b refusal hit after left t c l' → Refuses refusal (c .refusal) ((c .job ≡ left) × (l' ≡ t))
-    by (Changes.accepted q e) = record { given = q; only = λ k g. one k 0 g q; leaves = λ h. absurd (h refl) }
-    by (Changes.refused {k} q) = record { given = q; only = λ j g. one j (suc k) g q; leaves = λ _. (refl, refl) }
+    by (Changes.accepted q e) = listed one q (λ h. absurd (h refl))
+    by (Changes.refused q) = listed one q (λ _. (refl, refl))
 
 pub demand-1-open : (width height : ℕ) (t : List ℕ) {r : KhonChanged} {t' : List ℕ} → KhonOpens width height t r t' → Refuses (OpenRefusal width height t) (r .refusal) ((r .job ≡ zeroJob) × (t' ≡ t))
 demand-1-open a b t = changes (λ j k p q. open-only a b t p ∙ sym (open-only a b t q))
@@ -63,46 +66,51 @@ demand-1-correct job t number piece = changes (λ j k p q. correct-only job t nu
 pub demand-1-remove : (job : Job) (t : List ℕ) (number : ℕ) {r : KhonChanged} {t' : List ℕ} → KhonRemoves job t number r t' → Refuses (RemoveRefusal job t number) (r .refusal) ((r .job ≡ job) × (t' ≡ t))
 demand-1-remove job t number = changes (λ j k p q. remove-only job t number p ∙ sym (remove-only job t number q))
 
--- A block gives one number only, where its job does.
-block-single : (block : List ℕ) (list : Job → ℕ → Type 0) → ((job : Job) → Single (list job)) → Single (BlockRefusal block list)
-block-single block list one j k (BlockRefusal.shapeless h) (BlockRefusal.shapeless g) = refl
-block-single block list one j k (BlockRefusal.shapeless h) (BlockRefusal.shaped s g) = absurd (h s)
-block-single block list one j k (BlockRefusal.shaped s g) (BlockRefusal.shapeless h) = absurd (h s)
-block-single block list one j k (BlockRefusal.shaped s g) (BlockRefusal.shaped s' g') = one (jobIn block) j k g g'
+-- A call with a block refuses as the call on its job does, or, where it has no shape, with 1.
+module _ {block : List ℕ} {list : Job → ℕ → Type 0} {untouched : Type 0} where
+  shaped-refuses : {number : ℕ} → BlockShape block → Refuses (list (jobIn block)) number untouched → Refuses (BlockRefusal block list) number untouched
+  shaped-refuses {number} s r = record { given = BlockRefusal.shaped s (r .given); only = by; leaves = r .leaves }
+    where
+      by : (k : ℕ) → BlockRefusal block list k → k ≡ number
+      by k (BlockRefusal.shapeless h) = absurd (h s)
+      by k (BlockRefusal.shaped s' q) = r .only k q
+
+  shapeless-refuses : (BlockShape block → ⊥) → untouched → Refuses (BlockRefusal block list) badJob untouched
+  shapeless-refuses h u = record { given = BlockRefusal.shapeless h; only = by; leaves = λ _. u }
+    where
+      by : (k : ℕ) → BlockRefusal block list k → k ≡ badJob
+      by k (BlockRefusal.shapeless g) = refl
+      by k (BlockRefusal.shaped s q) = absurd (h s)
 
 pub demand-1-ask : (block t : List ℕ) (x y : ℕ) {r : KhonAsked} {t' : List ℕ} → KhonAsks block t x y r t' → Refuses (BlockRefusal block (λ job. AskRefusal job t x y)) (r .refusal) ((r .value ≡ 0) × (r .worked ≡ 0) × (t' ≡ t))
-demand-1-ask block t x y {t' = t'} l = subst (λ (r : KhonAsked). Refuses list (r .refusal) ((r .value ≡ 0) × (r .worked ≡ 0) × (t' ≡ t))) (sym (l .laid)) (by (l .keeps))
+demand-1-ask block t x y {t' = t'} l =
+    subst (λ (r : KhonAsked). Refuses (BlockRefusal block (λ job. AskRefusal job t x y)) (r .refusal) ((r .value ≡ 0) × (r .worked ≡ 0) × (t' ≡ t))) (sym (l .laid)) (by (l .keeps))
   where
-    list : ℕ → Type 0
-    list = BlockRefusal block (λ job. AskRefusal job t x y)
+    one : (job : Job) → Single (AskRefusal job t x y)
+    one job j k p q = ask-only job t x y p ∙ sym (ask-only job t x y q)
 
-    one : Single list
-    one = block-single block (λ job. AskRefusal job t x y) (λ job j k p q. ask-only job t x y p ∙ sym (ask-only job t x y q))
+    asks : (job : Job) {c : Asked} {l' : List ℕ} → Asks job t x y c l' → Refuses (AskRefusal job t x y) (flatAsked c .refusal) ((flatAsked c .value ≡ 0) × (flatAsked c .worked ≡ 0) × (l' ≡ t))
+    asks job (Asks.answered q f) = listed (one job) q (λ h. absurd (h refl))
+    asks job (Asks.refused q) = listed (one job) q (λ _. (refl, refl, refl))
 
-    asks : {c : Asked} {l' : List ℕ} → Asks (jobIn block) t x y c l' → BlockShape block → Refuses list (flatAsked c .refusal) ((flatAsked c .value ≡ 0) × (flatAsked c .worked ≡ 0) × (l' ≡ t))
-    asks (Asks.answered q f) s = let g = BlockRefusal.shaped s q in record { given = g; only = λ k p. one k 0 p g; leaves = λ h. absurd (h refl) }
-    asks (Asks.refused {k} q) s = let g = BlockRefusal.shaped s q in record { given = g; only = λ j p. one j (suc k) p g; leaves = λ _. (refl, refl, refl) }
-
-    by : {c : Asked} {l' : List ℕ} → AsksBlock block t x y c l' → Refuses list (flatAsked c .refusal) ((flatAsked c .value ≡ 0) × (flatAsked c .worked ≡ 0) × (l' ≡ t))
-    by (WithBlock.shaped s a) = asks a s
-    by (WithBlock.shapeless h) = let g = BlockRefusal.shapeless h in record { given = g; only = λ k p. one k badJob p g; leaves = λ _. (refl, refl, refl) }
+    by : {c : Asked} {l' : List ℕ} → AsksBlock block t x y c l' → Refuses (BlockRefusal block (λ job. AskRefusal job t x y)) (flatAsked c .refusal) ((flatAsked c .value ≡ 0) × (flatAsked c .worked ≡ 0) × (l' ≡ t))
+    by (WithBlock.shaped s a) = shaped-refuses s (asks (jobIn block) a)
+    by (WithBlock.shapeless h) = shapeless-refuses h (refl, refl, refl)
 
 pub demand-1-plan : (block t : List ℕ) (x y : ℕ) (o : List ℕ) {r : KhonPlanned} {o' : List ℕ} → KhonPlans block t x y o r o' → Refuses (BlockRefusal block (λ job. PlanRefusal job t x y (length o))) (r .refusal) ((r .length ≡ 0) × (r .value ≡ 0) × (o' ≡ o))
-demand-1-plan block t x y o {o' = o'} l = subst (λ (r : KhonPlanned). Refuses list (r .refusal) ((r .length ≡ 0) × (r .value ≡ 0) × (o' ≡ o))) (sym (l .laid)) (by (l .keeps))
+demand-1-plan block t x y o {o' = o'} l =
+    subst (λ (r : KhonPlanned). Refuses (BlockRefusal block (λ job. PlanRefusal job t x y (length o))) (r .refusal) ((r .length ≡ 0) × (r .value ≡ 0) × (o' ≡ o))) (sym (l .laid)) (by (l .keeps))
   where
-    list : ℕ → Type 0
-    list = BlockRefusal block (λ job. PlanRefusal job t x y (length o))
+    one : (job : Job) → Single (PlanRefusal job t x y (length o))
+    one job j k p q = plan-only job t x y (length o) p ∙ sym (plan-only job t x y (length o) q)
 
-    one : Single list
-    one = block-single block (λ job. PlanRefusal job t x y (length o)) (λ job j k p q. plan-only job t x y (length o) p ∙ sym (plan-only job t x y (length o) q))
+    plans : (job : Job) {c : Planned} {l' : List ℕ} → Plans job t x y o c l' → Refuses (PlanRefusal job t x y (length o)) (flatPlanned c .refusal) ((flatPlanned c .length ≡ 0) × (flatPlanned c .value ≡ 0) × (l' ≡ o))
+    plans job (Plans.written r b m) = listed (one job) (PlanRefusal.none r b m) (λ h. absurd (h refl))
+    plans job (Plans.refused q) = listed (one job) q (λ _. (refl, refl, refl))
 
-    plans : {c : Planned} {l' : List ℕ} → Plans (jobIn block) t x y o c l' → BlockShape block → Refuses list (flatPlanned c .refusal) ((flatPlanned c .length ≡ 0) × (flatPlanned c .value ≡ 0) × (l' ≡ o))
-    plans (Plans.written r b m) s = let g = BlockRefusal.shaped s (PlanRefusal.none r b m) in record { given = g; only = λ k p. one k 0 p g; leaves = λ h. absurd (h refl) }
-    plans (Plans.refused {k} q) s = let g = BlockRefusal.shaped s q in record { given = g; only = λ j p. one j (suc k) p g; leaves = λ _. (refl, refl, refl) }
-
-    by : {c : Planned} {l' : List ℕ} → PlansBlock block t x y o c l' → Refuses list (flatPlanned c .refusal) ((flatPlanned c .length ≡ 0) × (flatPlanned c .value ≡ 0) × (l' ≡ o))
-    by (WithBlock.shaped s a) = plans a s
-    by (WithBlock.shapeless h) = let g = BlockRefusal.shapeless h in record { given = g; only = λ k p. one k badJob p g; leaves = λ _. (refl, refl, refl) }
+    by : {c : Planned} {l' : List ℕ} → PlansBlock block t x y o c l' → Refuses (BlockRefusal block (λ job. PlanRefusal job t x y (length o))) (flatPlanned c .refusal) ((flatPlanned c .length ≡ 0) × (flatPlanned c .value ≡ 0) × (l' ≡ o))
+    by (WithBlock.shaped s a) = shaped-refuses s (plans (jobIn block) a)
+    by (WithBlock.shapeless h) = shapeless-refuses h (refl, refl, refl)
 
 pub demand-1-check : (file : List ℕ) → Bytes file → {r : KhonChecked} → KhonChecks file r → Refuses (CheckRefusal file) (r .refusal) ((r .value ≡ 0) × (r .note ≡ 0) × (r .«piece_area» ≡ 0) × (r .«scrap_area» ≡ 0))
 demand-1-check file bytes l = subst (λ (r : KhonChecked). Refuses (CheckRefusal file) (r .refusal) ((r .value ≡ 0) × (r .note ≡ 0) × (r .«piece_area» ≡ 0) × (r .«scrap_area» ≡ 0))) (sym (l .laid)) (by (l .answer) (l .keeps))

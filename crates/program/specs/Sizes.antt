@@ -1,5 +1,7 @@
--- The program's sizes, which the code has as constants.
-use Prim.Native.Nat.{ℕ}
+-- The program's sizes; the code has the first three as constants.
+use Prim.Native.Nat.{ℕ, _+_}
+use Rattle.cutting.specs.Limits.{piecesMax}
+use Rattle.job.specs.Block.{blockLength}
 
 -- "Its table has 16,384 cells, its plan buffer 32,768 bytes."
 abbrev pub tableCells : ℕ
@@ -12,6 +14,6 @@ planRoom = 32_768
 abbrev pub textMost : ℕ
 textMost = 414_805
 
--- One byte more than the longest block has: what comes after it changes nothing (`input-enough`).
+-- 391 bytes, one more than the longest block has: what comes after it changes nothing (`input-enough`).
 abbrev pub inputMost : ℕ
-inputMost = 391
+inputMost = blockLength piecesMax + 1

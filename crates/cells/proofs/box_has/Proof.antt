@@ -18,9 +18,6 @@ abbrev μ-loop : tie.MeasureT-loop
 loop-holds : tie.Need-loop-holds Inv-loop μ-loop
 loop-holds c = (anyInBox-none _ _, omega arith)
 
-add-row-has : tie.Need-add-row-has Inv-loop μ-loop
-add-row-has c = omega arith
-
 row-has-requires : tie.Need-row-has-requires Inv-loop μ-loop
 row-has-requires c κs =
     let held = holds-lower (c .before .loop .j + 1) (c .before .before .before .pre .0) (omega arith) (omega arith) in
@@ -28,12 +25,6 @@ row-has-requires c κs =
 
 returns : tie.Need-returns Inv-loop μ-loop
 returns c = sym (anyInBox-found _ _ (c .before .before .loop-test .taken) (sym (c .before .row-has .ensures) ∙ c .if1 .taken))
-
-add-j : tie.Need-add-j Inv-loop μ-loop
-add-j c = omega arith
-
-loop-less : tie.Need-loop-less Inv-loop μ-loop
-loop-less c = omega arith
 
 loop-again : tie.Need-loop-again Inv-loop μ-loop
 loop-again c =
@@ -43,16 +34,4 @@ returns-2 : tie.Need-returns-2 Inv-loop μ-loop
 returns-2 c = anyInBox-end _ _ (omega arith) (c .before .loop .inv .0)
 
 pub box-has-spec : {M : Type 1} → statement M
-box-has-spec =
-    tie.close
-    (tie.spec
-    Inv-loop
-    μ-loop
-    loop-holds
-    add-row-has
-    row-has-requires
-    returns
-    add-j
-    loop-less
-    loop-again
-    returns-2)
+box-has-spec = tie.close (tie.spec Inv-loop μ-loop loop-holds (λ c. omega arith) row-has-requires returns (λ c. omega arith) (λ c. omega arith) loop-again returns-2)

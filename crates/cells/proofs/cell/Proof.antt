@@ -6,9 +6,6 @@ use Rattle.cells.proofs.Redrawn.{read-cell}
 use Rattle.cells.proofs.cell.Statement.{statement}
 use Rattle.cells.proofs.cell.Tie as tie
 
-place-requires : tie.Need-place-requires
-place-requires c κs = search needs
-
 mul-result : tie.Need-mul-result
 mul-result c = omega (arith, place-below (c .before .before .pre .1))
 
@@ -19,4 +16,4 @@ returns : tie.Need-returns
 returns c = read-cell _ (c .before .before .before .pre .0 .room) (c .before .before .before .pre .1) _ (c .before .place .ensures)
 
 pub cell-spec : {M : Type 1} → statement M
-cell-spec = tie.close (tie.spec place-requires mul-result shared-slice-read-result returns)
+cell-spec = tie.close (tie.spec (λ c κs. search needs) mul-result shared-slice-read-result returns)

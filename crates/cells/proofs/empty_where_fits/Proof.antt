@@ -24,12 +24,6 @@ empty-row-requires c κs =
     let held = holds-lower (c .before .before .loop .y) (c .before .before .before .before .pre .0) (omega arith) (omega arith) in
     omega arith
 
-add-y : tie.Need-add-y Inv-loop μ-loop
-add-y c = omega arith
-
-loop-less : tie.Need-loop-less Inv-loop μ-loop
-loop-less c = omega arith
-
 loop-again : tie.Need-loop-again Inv-loop μ-loop
 loop-again c =
     let inv = c .before .before .before .before .before .loop .inv in (
@@ -38,22 +32,8 @@ loop-again c =
       rows-more _ _ _ _ _ _ (omega arith) (omega arith) (inv .0) (inv .2) (c .before .before .empty-row .ensures),
     )
 
-same-length : tie.Need-same-length Inv-loop μ-loop
-same-length c = omega arith
-
 returns : tie.Need-returns Inv-loop μ-loop
 returns c = c .before .loop .inv .2 ∙ rows-end _ _ _ _ _ _ (omega arith)
 
 pub empty-where-fits-spec : {M : Type 1} → statement M
-empty-where-fits-spec =
-    tie.close
-    (tie.spec
-    Inv-loop
-    μ-loop
-    loop-holds
-    empty-row-requires
-    add-y
-    loop-less
-    loop-again
-    same-length
-    returns)
+empty-where-fits-spec = tie.close (tie.spec Inv-loop μ-loop loop-holds empty-row-requires (λ c. omega arith) (λ c. omega arith) loop-again (λ c. omega arith) returns)

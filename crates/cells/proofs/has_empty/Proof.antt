@@ -4,12 +4,9 @@ use Rattle.cells.specs.Inner.{sought}
 use Rattle.cells.proofs.has_empty.Statement.{statement}
 use Rattle.cells.proofs.has_empty.Tie as tie
 
-box-has-requires : tie.Need-box-has-requires
-box-has-requires c κs = search needs
-
 returns : tie.Need-returns
 unfolding sought
 returns c = c .box-has .ensures
 
 pub has-empty-spec : {M : Type 1} → statement M
-has-empty-spec = tie.close (tie.spec box-has-requires returns)
+has-empty-spec = tie.close (tie.spec (λ c κs. search needs) returns)

@@ -4,12 +4,9 @@ use Rattle.cells.specs.Inner.{sought}
 use Rattle.cells.proofs.has_exceeding.Statement.{statement}
 use Rattle.cells.proofs.has_exceeding.Tie as tie
 
-box-has-requires : tie.Need-box-has-requires
-box-has-requires c κs = search needs
-
 returns : tie.Need-returns
 unfolding sought
 returns c = c .box-has .ensures
 
 pub has-exceeding-spec : {M : Type 1} → statement M
-has-exceeding-spec = tie.close (tie.spec box-has-requires returns)
+has-exceeding-spec = tie.close (tie.spec (λ c κs. search needs) returns)

@@ -6,14 +6,8 @@ use Rattle.cells.proofs.Places.{rows-fit}
 use Rattle.cells.proofs.place.Statement.{statement}
 use Rattle.cells.proofs.place.Tie as tie
 
-sub-result : tie.Need-sub-result
-sub-result c = search needs
-
 mul-result : tie.Need-mul-result
 mul-result c = omega (arith, rows-fit (c .args .a) (c .args .y) (omega arith) (omega arith))
-
-sub-result-2 : tie.Need-sub-result-2
-sub-result-2 c = search needs
 
 add-result : tie.Need-add-result
 add-result c = omega (arith, rows-fit (c .args .a) (c .args .y) (omega arith) (omega arith))
@@ -23,4 +17,4 @@ unfolding place
 returns c = search needs
 
 pub place-spec : {M : Type 1} → statement M
-place-spec = tie.close (tie.spec sub-result mul-result sub-result-2 add-result returns)
+place-spec = tie.close (tie.spec (λ c. search needs) mul-result (λ c. search needs) add-result returns)

@@ -17,20 +17,8 @@ abbrev μ-loop : tie.MeasureT-loop
 loop-holds : tie.Need-loop-holds Inv-loop μ-loop
 loop-holds c = (anyInRow-none _ _, omega arith)
 
-add-is-sought : tie.Need-add-is-sought Inv-loop μ-loop
-add-is-sought c = omega arith
-
-is-sought-requires : tie.Need-is-sought-requires Inv-loop μ-loop
-is-sought-requires c κs = omega arith
-
 returns : tie.Need-returns Inv-loop μ-loop
 returns c = sym (anyInRow-found _ _ (c .before .before .loop-test .taken) (sym (c .before .is-sought .ensures) ∙ c .if1 .taken))
-
-add-i : tie.Need-add-i Inv-loop μ-loop
-add-i c = omega arith
-
-loop-less : tie.Need-loop-less Inv-loop μ-loop
-loop-less c = omega arith
 
 loop-again : tie.Need-loop-again Inv-loop μ-loop
 loop-again c =
@@ -40,16 +28,4 @@ returns-2 : tie.Need-returns-2 Inv-loop μ-loop
 returns-2 c = anyInRow-end _ _ (omega arith) (c .before .loop .inv .0)
 
 pub row-has-spec : {M : Type 1} → statement M
-row-has-spec =
-    tie.close
-    (tie.spec
-    Inv-loop
-    μ-loop
-    loop-holds
-    add-is-sought
-    is-sought-requires
-    returns
-    add-i
-    loop-less
-    loop-again
-    returns-2)
+row-has-spec = tie.close (tie.spec Inv-loop μ-loop loop-holds (λ c. omega arith) (λ c κs. omega arith) returns (λ c. omega arith) (λ c. omega arith) loop-again returns-2)

@@ -12,9 +12,6 @@ returns c = tooMuch-empty _ _ _ (c .if1 .taken)
 mul-result : tie.Need-mul-result
 mul-result c = omega (arith, area-fits (c .before .pre .widthMost) (c .before .pre .heightMost))
 
-cast-result : tie.Need-cast-result
-cast-result c = search needs
-
 mul-result-2 : tie.Need-mul-result-2
 mul-result-2 c = omega (arith, area-fits (c .before .pre .widthMost) (c .before .pre .heightMost))
 
@@ -22,4 +19,4 @@ returns-2 : tie.Need-returns-2
 returns-2 c = tooMuch-filled _ _ _ (c .if1 .left)
 
 pub too-much-spec : {M : Type 1} → statement M
-too-much-spec = tie.close (tie.spec returns mul-result cast-result mul-result-2 returns-2)
+too-much-spec = tie.close (tie.spec returns mul-result (λ c. search needs) mul-result-2 returns-2)

@@ -4,18 +4,8 @@ use borrow.Author.Needs.{needs}
 use Rattle.checker.proofs.block_distance.Statement.{statement}
 use Rattle.checker.proofs.block_distance.Tie as tie
 
-trailer-at-requires : tie.Need-trailer-at-requires
-trailer-at-requires c κs = search needs
-
-number4-requires : tie.Need-number4-requires
-number4-requires c κs = search needs
-
-widened-requires : tie.Need-widened-requires
-widened-requires c κs = search needs
-
 returns : tie.Need-returns
 returns c = distance-read _ (c .before .before .trailer-at .ensures) (c .before .number4 .ensures) (c .widened .ensures)
 
 pub block-distance-spec : {M : Type 1} → statement M
-block-distance-spec =
-    tie.close (tie.spec trailer-at-requires number4-requires widened-requires returns)
+block-distance-spec = tie.close (tie.spec (λ c κs. search needs) (λ c κs. search needs) (λ c κs. search needs) returns)

@@ -7,9 +7,6 @@ use borrow.Author.Needs.{needs}
 use Rattle.checker.proofs.check.Statement.{statement}
 use Rattle.checker.proofs.check.Tie as tie
 
-is-framed-requires : tie.Need-is-framed-requires
-is-framed-requires c κs = search needs
-
 returns : tie.Need-returns
 returns c = refuses-9 _ (sym (c .before .is-framed .ensures) ∙ not-true (c .if1 .taken))
 
@@ -21,9 +18,6 @@ returns-2 c = refuses-10 _ (sym (c .before .before .before .is-framed .ensures) 
 
 job-block-requires : tie.Need-job-block-requires
 job-block-requires c κs = framed-says _ .means (sym (c .before .before .before .is-framed .ensures) ∙ not-false (c .before .before .if1 .left))
-
-job-agrees-requires : tie.Need-job-agrees-requires
-job-agrees-requires c κs = search needs
 
 returns-3 : tie.Need-returns-3
 returns-3 c = refuses-11 _ (sym (c .before .before .before .before .before .before .is-framed .ensures) ∙ not-false (c .before .before .before .before .before .if1 .left)) (sym (c .before .before .before .before .sum-agrees .ensures) ∙ not-false (c .before .before .before .if2 .left)) (c .before .before .job-block .ensures) (sym (c .before .job-agrees .ensures) ∙ not-true (c .if3 .taken))
@@ -41,16 +35,4 @@ returns-4 : tie.Need-returns-4
 returns-4 c = judges _ (sym (c .before .before .before .before .before .before .before .before .before .is-framed .ensures) ∙ not-false (c .before .before .before .before .before .before .before .before .if1 .left)) (sym (c .before .before .before .before .before .before .before .sum-agrees .ensures) ∙ not-false (c .before .before .before .before .before .before .if2 .left)) (c .before .before .before .before .before .job-block .ensures) (sym (c .before .before .before .before .job-agrees .ensures) ∙ not-false (c .before .before .before .if3 .left)) (c .before .read-nodes .ensures) (c .judge .ensures)
 
 pub check-spec : {M : Type 1} → statement M
-check-spec =
-    tie.close
-    (tie.spec
-    is-framed-requires
-    returns
-    sum-agrees-requires
-    returns-2
-    job-block-requires
-    job-agrees-requires
-    returns-3
-    read-nodes-requires
-    judge-requires
-    returns-4)
+check-spec = tie.close (tie.spec (λ c κs. search needs) returns sum-agrees-requires returns-2 job-block-requires (λ c κs. search needs) returns-3 read-nodes-requires judge-requires returns-4)

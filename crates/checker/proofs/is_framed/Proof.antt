@@ -11,19 +11,11 @@ returns c = not-framed _ (λ f. omega arith)
 returns-2 : tie.Need-returns-2
 returns-2 c = not-framed _ (λ f. omega arith)
 
-block-distance-requires : tie.Need-block-distance-requires
-block-distance-requires c κs = search needs
-
 returns-3 : tie.Need-returns-3
 returns-3 c = not-framed _ (λ f. omega arith)
-
-trailer-at-requires : tie.Need-trailer-at-requires
-trailer-at-requires c κs = search needs
 
 returns-4 : tie.Need-returns-4
 returns-4 c = framed-last _ (omega arith) (omega arith) (omega arith) (c .before .before .block-distance .ensures) (c .trailer-at .ensures)
 
 pub is-framed-spec : {M : Type 1} → statement M
-is-framed-spec =
-    tie.close
-    (tie.spec returns returns-2 block-distance-requires returns-3 trailer-at-requires returns-4)
+is-framed-spec = tie.close (tie.spec returns returns-2 (λ c κs. search needs) returns-3 (λ c κs. search needs) returns-4)

@@ -8,35 +8,8 @@ use borrow.Author.Needs.{needs}
 use Rattle.checker.proofs.read_nodes.Statement.{statement}
 use Rattle.checker.proofs.read_nodes.Tie as tie
 
-trailer-at-requires : tie.Need-trailer-at-requires
-trailer-at-requires c κs = search needs
-
-nodes-distance-requires : tie.Need-nodes-distance-requires
-nodes-distance-requires c κs = search needs
-
-sub-start : tie.Need-sub-start
-sub-start c = search needs
-
-row-requires : tie.Need-row-requires
-row-requires c κs = search needs
-
-row-requires-2 : tie.Need-row-requires-2
-row-requires-2 c κs = search needs
-
-row-requires-3 : tie.Need-row-requires-3
-row-requires-3 c κs = search needs
-
-cast-read-part : tie.Need-cast-read-part
-cast-read-part c = search needs
-
 slice-aggregate-read-part : tie.Need-slice-aggregate-read-part
 slice-aggregate-read-part c = sym (length-take-le _ _ (omega arith))
-
-cast-t17 : tie.Need-cast-t17
-cast-t17 c = search needs
-
-cast-t18 : tie.Need-cast-t18
-cast-t18 c = search needs
 
 read-part-requires : tie.Need-read-part-requires
 read-part-requires c κs = ready (c .before .before .before .before .before .before .before .before .before .before .before .before .before .args .job) (c .before .before .before .before .before .before .before .before .before .before .before .before .before .pre .1) (rows-of (c .before .before .before .before .before .before .before .before .before .before .before .before .before .args .job) (c .before .before .before .before .before .before .before .before .before .before .before .before .before .pre .1 .countMost) (c .before .before .before .before .before .before .before .before .before .row .ensures) (c .before .before .before .before .before .before .before .before .row2 .ensures) (c .before .before .before .before .before .before .before .row3 .ensures) refl) refl refl
@@ -45,18 +18,4 @@ returns : tie.Need-returns
 returns c = nodes-done _ (c .before .before .before .before .before .before .before .before .before .before .before .before .before .before .args .job) (rows-of (c .before .before .before .before .before .before .before .before .before .before .before .before .before .before .args .job) (c .before .before .before .before .before .before .before .before .before .before .before .before .before .before .pre .1 .countMost) (c .before .before .before .before .before .before .before .before .before .before .row .ensures) (c .before .before .before .before .before .before .before .before .before .row2 .ensures) (c .before .before .before .before .before .before .before .before .row3 .ensures) refl) (c .before .before .before .before .before .before .before .before .before .before .before .before .trailer-at .ensures) (ap₂ _-_ (c .before .before .before .before .before .before .before .before .before .before .before .before .trailer-at .ensures) (c .before .before .before .before .before .before .before .before .before .before .before .nodes-distance .ensures)) (c .read-part .ensures)
 
 pub read-nodes-spec : {M : Type 1} → statement M
-read-nodes-spec =
-    tie.close
-    (tie.spec
-    trailer-at-requires
-    nodes-distance-requires
-    sub-start
-    row-requires
-    row-requires-2
-    row-requires-3
-    cast-read-part
-    slice-aggregate-read-part
-    cast-t17
-    cast-t18
-    read-part-requires
-    returns)
+read-nodes-spec = tie.close (tie.spec (λ c κs. search needs) (λ c κs. search needs) (λ c. search needs) (λ c κs. search needs) (λ c κs. search needs) (λ c κs. search needs) (λ c. search needs) slice-aggregate-read-part (λ c. search needs) (λ c. search needs) read-part-requires returns)

@@ -19,18 +19,6 @@ abbrev μ-loop : tie.MeasureT-loop
 loop-holds : tie.Need-loop-holds Inv-loop μ-loop
 loop-holds c = (omega arith, refl, sym (sum-none _))
 
-shared-slice-read-sum-step : tie.Need-shared-slice-read-sum-step Inv-loop μ-loop
-shared-slice-read-sum-step c = omega arith
-
-sum-step-requires : tie.Need-sum-step-requires Inv-loop μ-loop
-sum-step-requires c κs = search needs
-
-add-k : tie.Need-add-k Inv-loop μ-loop
-add-k c = omega arith
-
-loop-less : tie.Need-loop-less Inv-loop μ-loop
-loop-less c = omega arith
-
 loop-again : tie.Need-loop-again Inv-loop μ-loop
 loop-again c =
     let at-loop = c .before .before .before in
@@ -45,15 +33,4 @@ returns c =
     c .before .loop .inv .2 ∙ ap (runningSum _) (take-all _ s end)
 
 pub sum-over-spec : {M : Type 1} → statement M
-sum-over-spec =
-    tie.close
-    (tie.spec
-    Inv-loop
-    μ-loop
-    loop-holds
-    shared-slice-read-sum-step
-    sum-step-requires
-    add-k
-    loop-less
-    loop-again
-    returns)
+sum-over-spec = tie.close (tie.spec Inv-loop μ-loop loop-holds (λ c. omega arith) (λ c κs. search needs) (λ c. omega arith) (λ c. omega arith) loop-again returns)

@@ -12,9 +12,6 @@ use Rattle.fill.proofs.Growing.{filled-none}
 use Rattle.fill.proofs.Rounds.{box-row, box-more, box-count, box-within}
 use Rattle.fill.proofs.fill_box.Statement.{statement}
 use Rattle.fill.proofs.fill_box.Tie as tie
-use Rattle.fill.proofs.fill_box.Reads as reads
-use Rattle.fill.proofs.fill_box.Lts as lts
-use Rattle.fill.proofs.fill_row.Reads as fill-row-reads
 
 abbrev Inv-loop : tie.InvT-loop
 Inv-loop t₀ a b x y n widths heights values across up worked₀ j₀ t worked j =
@@ -26,9 +23,6 @@ abbrev μ-loop : tie.MeasureT-loop
 loop-holds : tie.Need-loop-holds Inv-loop μ-loop
 loop-holds c = (omega arith, omega arith, filled-none _ _ _ _ _ _ (inr (omega arith)), sym (countInBox-none _ _))
 
-add-fill-row : tie.Need-add-fill-row Inv-loop μ-loop
-add-fill-row c = omega arith
-
 fill-row-requires : tie.Need-fill-row-requires Inv-loop μ-loop
 fill-row-requires c κs = (box-row _ _ _ _ _ _ (c .before .before .before .before .pre .0) _ (omega arith) (c .before .before .loop .inv .2), omega arith)
 
@@ -37,20 +31,11 @@ add-worked c =
     let inv = c .before .before .before .before .before .loop .inv in
     omega (arith, box-within _ _ _ _ _ _ (c .before .before .before .before .before .before .before .pre .0) _ (omega arith) (inv .2) (inv .3) (c .before .before .fill-row .ensures .0))
 
-add-j : tie.Need-add-j Inv-loop μ-loop
-add-j c = omega arith
-
-loop-less : tie.Need-loop-less Inv-loop μ-loop
-loop-less c = omega arith
-
 loop-again : tie.Need-loop-again Inv-loop μ-loop
 loop-again c =
     let inv = c .before .before .before .before .before .loop .inv in
     let ready = c .before .before .before .before .before .before .before .pre .0 in
     (omega arith, omega arith, box-more _ _ _ _ _ _ ready _ (omega arith) (inv .2) (c .before .before .fill-row .ensures .1), box-count _ _ _ _ _ _ ready _ (omega arith) (inv .2) (inv .3) (c .before .before .fill-row .ensures .0))
-
-same-length : tie.Need-same-length Inv-loop μ-loop
-same-length c = omega arith
 
 returns : tie.Need-returns Inv-loop μ-loop
 returns c =
@@ -59,17 +44,4 @@ returns c =
     rw (← end) (inv .3, inv .2)
 
 pub fill-box-spec : {M : Type 1} → statement M
-fill-box-spec =
-    tie.close
-    (tie.spec
-    Inv-loop
-    μ-loop
-    loop-holds
-    add-fill-row
-    fill-row-requires
-    add-worked
-    add-j
-    loop-less
-    loop-again
-    same-length
-    returns)
+fill-box-spec = tie.close (tie.spec Inv-loop μ-loop loop-holds (λ c. omega arith) fill-row-requires add-worked (λ c. omega arith) (λ c. omega arith) loop-again (λ c. omega arith) returns)

@@ -9,10 +9,6 @@ use Rattle.fill.specs.Inner.{filled}
 use Rattle.fill.proofs.Rounds.{entered, entered-count, lines-up, row-around, row-more, row-count, row-within}
 use Rattle.fill.proofs.fill_columns.Statement.{statement}
 use Rattle.fill.proofs.fill_columns.Tie as tie
-use Rattle.fill.proofs.fill_columns.Reads as reads
-use Rattle.fill.proofs.fill_columns.Lts as lts
-use Rattle.fill.proofs.fill_cell.Reads as fill-cell-reads
-use Rattle.fill.proofs.floor.floor_of.Reads as floor-of-reads
 
 abbrev Inv-loop : tie.InvT-loop
 Inv-loop t₀ a b from x w n widths heights values across up floor worked₀ i₀ t worked i =
@@ -24,25 +20,10 @@ abbrev μ-loop : tie.MeasureT-loop
 floor-of-requires : tie.Need-floor-of-requires Inv-loop μ-loop
 floor-of-requires c κs = (lines-up _ _ _ _ _ _ _ (c .before .before .pre .0) (c .before .before .pre .1 .0), c .before .before .pre .1 .1)
 
-sub-i : tie.Need-sub-i Inv-loop μ-loop
-sub-i c = omega arith
-
 loop-holds : tie.Need-loop-holds Inv-loop μ-loop
 loop-holds c =
     let start = c .before .before .before in
     (omega arith, omega arith, refl, entered _ _ _ _ _ _ _ (start .pre .0) (start .pre .1 .0), entered-count _ _ _ _ _ _ _ (start .pre .0) (start .pre .1 .0))
-
-add-fill-cell : tie.Need-add-fill-cell Inv-loop μ-loop
-add-fill-cell c = omega arith
-
-add-fill-cell-2 : tie.Need-add-fill-cell-2 Inv-loop μ-loop
-add-fill-cell-2 c = omega arith
-
-mul-fill-cell : tie.Need-mul-fill-cell Inv-loop μ-loop
-mul-fill-cell c = omega arith
-
-array-read-fill-cell : tie.Need-array-read-fill-cell Inv-loop μ-loop
-array-read-fill-cell c = omega arith
 
 fill-cell-requires : tie.Need-fill-cell-requires Inv-loop μ-loop
 fill-cell-requires c κs = row-around _ _ _ _ _ _ (c .before .before .before .before .before .before .pre .0) _ (omega arith) (c .before .before .loop .inv .3)
@@ -52,12 +33,6 @@ add-worked c =
     let inv = c .before .before .before .before .before .loop .inv in
     omega (arith, row-within _ _ _ _ _ _ (c .before .before .before .before .before .before .before .before .before .pre .0) _ (omega arith) (inv .3) (inv .4) (c .before .before .fill-cell .ensures .0))
 
-add-i : tie.Need-add-i Inv-loop μ-loop
-add-i c = omega arith
-
-loop-less : tie.Need-loop-less Inv-loop μ-loop
-loop-less c = omega arith
-
 loop-again : tie.Need-loop-again Inv-loop μ-loop
 unfolding rowsOf
 loop-again c =
@@ -66,9 +41,6 @@ loop-again c =
     let floor = c .before .before .before .before .before .before .floor-of .ensures .at _ (inv .1) (omega arith) in
     (omega arith, omega arith, omega arith, row-more _ _ _ _ _ _ ready _ (omega arith) (inv .3) floor (c .before .before .fill-cell .ensures .1), row-count _ _ _ _ _ _ ready _ (omega arith) (inv .3) (inv .4) (c .before .before .fill-cell .ensures .0))
 
-same-length : tie.Need-same-length Inv-loop μ-loop
-same-length c = omega arith
-
 returns : tie.Need-returns Inv-loop μ-loop
 returns c =
     let inv = c .before .loop .inv in
@@ -76,22 +48,4 @@ returns c =
     rw (← end) (inv .4, inv .3)
 
 pub fill-columns-spec : {M : Type 1} → statement M
-fill-columns-spec =
-    tie.close
-    (tie.spec
-    Inv-loop
-    μ-loop
-    floor-of-requires
-    sub-i
-    loop-holds
-    add-fill-cell
-    add-fill-cell-2
-    mul-fill-cell
-    array-read-fill-cell
-    fill-cell-requires
-    add-worked
-    add-i
-    loop-less
-    loop-again
-    same-length
-    returns)
+fill-columns-spec = tie.close (tie.spec Inv-loop μ-loop floor-of-requires (λ c. omega arith) loop-holds (λ c. omega arith) (λ c. omega arith) (λ c. omega arith) (λ c. omega arith) fill-cell-requires add-worked (λ c. omega arith) (λ c. omega arith) loop-again (λ c. omega arith) returns)

@@ -5,9 +5,6 @@ use Rattle.fill.specs.Inner.{FullBefore}
 use Rattle.fill.proofs.Rounds.{before-none, before-more, row-cells}
 use Rattle.fill.proofs.first_empty.Statement.{statement}
 use Rattle.fill.proofs.first_empty.Tie as tie
-use Rattle.fill.proofs.first_empty.Reads as reads
-use Rattle.fill.proofs.first_empty.Lts as lts
-use Rattle.cells.proofs.cell.Reads as cell-reads
 
 abbrev Inv-loop : tie.InvT-loop
 Inv-loop t a x w i₀ i = (i ≤ x) × FullBefore a t x w (i + 1)
@@ -18,46 +15,17 @@ abbrev μ-loop : tie.MeasureT-loop
 loop-holds : tie.Need-loop-holds Inv-loop μ-loop
 loop-holds c = (omega arith, before-none _ _ _ _)
 
-add-cell : tie.Need-add-cell Inv-loop μ-loop
-add-cell c = omega arith
-
 cell-requires : tie.Need-cell-requires Inv-loop μ-loop
 cell-requires c κs = row-cells _ _ _ _ _ (c .before .before .before .pre .0) (c .before .before .before .pre .1) (omega arith)
-
-add-result : tie.Need-add-result Inv-loop μ-loop
-add-result c = omega arith
 
 returns : tie.Need-returns Inv-loop μ-loop
 returns c = c .before .before .before .loop .inv .1
 
-add-i : tie.Need-add-i Inv-loop μ-loop
-add-i c = omega arith
-
-loop-less : tie.Need-loop-less Inv-loop μ-loop
-loop-less c = omega arith
-
 loop-again : tie.Need-loop-again Inv-loop μ-loop
 loop-again c = (omega arith, before-more _ _ _ _ _ (omega arith) (c .before .before .before .loop .inv .1) (c .before .cell .ensures) (c .if1 .left))
-
-add-result-2 : tie.Need-add-result-2 Inv-loop μ-loop
-add-result-2 c = omega arith
 
 returns-2 : tie.Need-returns-2 Inv-loop μ-loop
 returns-2 c = c .before .loop .inv .1
 
 pub first-empty-spec : {M : Type 1} → statement M
-first-empty-spec =
-    tie.close
-    (tie.spec
-    Inv-loop
-    μ-loop
-    loop-holds
-    add-cell
-    cell-requires
-    add-result
-    returns
-    add-i
-    loop-less
-    loop-again
-    add-result-2
-    returns-2)
+first-empty-spec = tie.close (tie.spec Inv-loop μ-loop loop-holds (λ c. omega arith) cell-requires (λ c. omega arith) returns (λ c. omega arith) (λ c. omega arith) loop-again (λ c. omega arith) returns-2)

@@ -4,26 +4,10 @@ use Rattle.khonvertseg.proofs.Block.{block-refused, block-given}
 use borrow.Author.Needs.{needs}
 use Rattle.khonvertseg.proofs.ask_block.Statement.{statement}
 use Rattle.khonvertseg.proofs.ask_block.Tie as tie
-use Rattle.khonvertseg.proofs.ask_block.Reads as reads
-use Rattle.khonvertseg.proofs.ask_block.Lts as lts
-use Rattle.desk.proofs.question.ask.Reads as ask-reads
-use Rattle.job.proofs.block.from_block.Reads as from-block-reads
-
--- src/lib.rt:129:9
-from-block-requires : tie.Need-from-block-requires
-from-block-requires c κs = search needs
 
 -- src/lib.rt:131:9
 returns : tie.Need-returns
 returns c = block-refused _ (c .before .before .from-block .ensures) (c .if1 .taken)
-
--- src/lib.rt:134:5
-ask-requires : tie.Need-ask-requires
-ask-requires c κs = search needs
-
--- src/lib.rt:125:1
-same-length : tie.Need-same-length
-same-length c = search needs
 
 -- src/lib.rt:125:1
 returns-2 : tie.Need-returns-2
@@ -31,5 +15,4 @@ returns-2 c =
     block-given _ (c .before .before .before .before .before .before .before .from-block .ensures) (c .before .before .before .before .before .if1 .left) (ask-exactly _ _ _ _ .0 (c .before .before .ask .ensures))
 
 pub ask-block-spec : {M : Type 1} → statement M
-ask-block-spec =
-    tie.close (tie.spec from-block-requires returns ask-requires same-length returns-2)
+ask-block-spec = tie.close (tie.spec (λ c κs. search needs) returns (λ c κs. search needs) (λ c. search needs) returns-2)

@@ -49,23 +49,11 @@ read-line-calls t = (read-part-below t, read-part.Post, added-reads.Asked, added
 read-line-read-part-requires : (t : ℕ) → read-line-lts.Need-read-part-requires (read-line-calls t) (read-line-at t) read-line.Post
 read-line-read-part-requires t c κs = (near-less (c .before .before .args .split) _ (c .before .before .pre .1) (c .before .before .pre .0), c .before .before .pre .1 .near)
 
-read-line-enum-known-first : (t : ℕ) → read-line-lts.Need-enum-known-first (read-line-calls t) (read-line-at t) read-line.Post
-read-line-enum-known-first t c = search needs
-
-read-line-enum-told : (t : ℕ) → read-line-lts.Need-enum-told (read-line-calls t) (read-line-at t) read-line.Post
-read-line-enum-told t c = search needs
-
 read-line-returns : (t : ℕ) → read-line-lts.Need-returns (read-line-calls t) (read-line-at t) read-line.Post
 read-line-returns t c = c .enum-told .given .1 ∙ line-near-broken _ _ (c .before .before .before .before .before .args .split) (sym (c .before .before .read-part .ensures) ∙ c .enum-told .given .1)
 
 read-line-read-part-requires-2 : (t : ℕ) → read-line-lts.Need-read-part-requires-2 (read-line-calls t) (read-line-at t) read-line.Post
 read-line-read-part-requires-2 t c κs = (far-less (c .before .before .before .before .before .before .before .args .split) _ (c .before .before .before .before .before .before .before .pre .1) (c .before .before .before .before .before .before .before .pre .0), c .before .before .before .before .before .before .before .pre .1 .far)
-
-read-line-enum-known-second : (t : ℕ) → read-line-lts.Need-enum-known-second (read-line-calls t) (read-line-at t) read-line.Post
-read-line-enum-known-second t c = search needs
-
-read-line-enum-told-2 : (t : ℕ) → read-line-lts.Need-enum-told-2 (read-line-calls t) (read-line-at t) read-line.Post
-read-line-enum-told-2 t c = search needs
 
 read-line-returns-2 : (t : ℕ) → read-line-lts.Need-returns-2 (read-line-calls t) (read-line-at t) read-line.Post
 read-line-returns-2 t c = c .enum-told2 .given .1 ∙ line-far-broken _ _ (c .before .before .before .before .before .before .before .before .before .before .args .split) _ _ (sym (c .before .before .before .before .before .before .before .read-part .ensures) ∙ c .before .before .before .before .before .first .given .1) (sym (c .before .before .read-part2 .ensures) ∙ c .enum-told2 .given .1)
@@ -79,17 +67,8 @@ read-line-returns-3 t c = line-both _ _ (c .before .before .before .before .befo
 read-part-first-node-requires : (t : ℕ) → read-part-lts.Need-first-node-requires (read-part-calls t) (read-part-at t) read-part.Post
 read-part-first-node-requires t c κs = (rows-few _ _ _ _ (c .before .pre .1 .few), record { small = c .before .pre .1 .small })
 
-read-part-enum-known-first : (t : ℕ) → read-part-lts.Need-enum-known-first (read-part-calls t) (read-part-at t) read-part.Post
-read-part-enum-known-first t c = search needs
-
-read-part-enum-known-first-2 : (t : ℕ) → read-part-lts.Need-enum-known-first-2 (read-part-calls t) (read-part-at t) read-part.Post
-read-part-enum-known-first-2 t c = search needs
-
 read-part-read-line-requires : (t : ℕ) → read-part-lts.Need-read-line-requires (read-part-calls t) (read-part-at t) read-part.Post
 read-part-read-line-requires t c κs = (line-less _ _ (c .before .before .before .before .before .args .frame) _ _ (sym (c .before .before .before .first-node .ensures) ∙ c .before .first2 .given .1) (c .before .before .before .before .before .pre .1) (c .before .before .before .before .before .pre .0), line-ready _ _ (c .before .before .before .before .before .args .frame) _ (sym (c .before .before .before .first-node .ensures) ∙ c .before .first2 .given .1) (c .before .before .before .before .before .pre .1))
-
-read-part-enum-told : (t : ℕ) → read-part-lts.Need-enum-told (read-part-calls t) (read-part-at t) read-part.Post
-read-part-enum-told t c = search needs
 
 read-part-returns : (t : ℕ) → read-part-lts.Need-returns (read-part-calls t) (read-part-at t) read-part.Post
 read-part-returns t c = part-leaf _ _ (c .before .before .before .before .before .args .frame) _ _ (sym (c .before .before .before .first-node .ensures) ∙ c .before .first .given .1)
@@ -101,23 +80,4 @@ read-part-returns-3 : (t : ℕ) → read-part-lts.Need-returns-3 (read-part-call
 read-part-returns-3 t c = part-broken _ _ (c .before .before .before .before .args .frame) (sym (c .before .before .first-node .ensures) ∙ c .enum-told .given .1)
 
 pub +read-line+read-part-spec : {M : Type 1} → statement M
-+read-line+read-part-spec = close μ-read-line μ-read-part (λ t. read-line-lts.spec (read-line-calls t) (read-line-at t) read-line.Post
-    (read-line-read-part-requires t)
-    (read-line-enum-known-first t)
-    (read-line-enum-told t)
-    (read-line-returns t)
-    (read-line-read-part-requires-2 t)
-    (read-line-enum-known-second t)
-    (read-line-enum-told-2 t)
-    (read-line-returns-2 t)
-    (read-line-added-requires t)
-    (read-line-returns-3 t))
-    λ t. read-part-lts.spec (read-part-calls t) (read-part-at t) read-part.Post
-    (read-part-first-node-requires t)
-    (read-part-enum-known-first t)
-    (read-part-enum-known-first-2 t)
-    (read-part-read-line-requires t)
-    (read-part-enum-told t)
-    (read-part-returns t)
-    (read-part-returns-2 t)
-    (read-part-returns-3 t)
++read-line+read-part-spec = close μ-read-line μ-read-part (λ t. read-line-lts.spec (read-line-calls t) (read-line-at t) read-line.Post (read-line-read-part-requires t) (λ c. search needs) (λ c. search needs) (read-line-returns t) (read-line-read-part-requires-2 t) (λ c. search needs) (λ c. search needs) (read-line-returns-2 t) (read-line-added-requires t) (read-line-returns-3 t)) λ t. read-part-lts.spec (read-part-calls t) (read-part-at t) read-part.Post (read-part-first-node-requires t) (λ c. search needs) (λ c. search needs) (read-part-read-line-requires t) (λ c. search needs) (read-part-returns t) (read-part-returns-2 t) (read-part-returns-3 t)

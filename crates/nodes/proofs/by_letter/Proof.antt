@@ -6,18 +6,6 @@ use borrow.Author.Needs.{needs}
 use Rattle.nodes.proofs.by_letter.Statement.{statement}
 use Rattle.nodes.proofs.by_letter.Tie as tie
 
-vertical-requires : tie.Need-vertical-requires
-vertical-requires c κs = search needs
-
-horizontal-requires : tie.Need-horizontal-requires
-horizontal-requires c κs = search needs
-
-piece-requires : tie.Need-piece-requires
-piece-requires c κs = search needs
-
-scrap-requires : tie.Need-scrap-requires
-scrap-requires c κs = search needs
-
 returns : tie.Need-returns
 returns c = c .vertical .ensures ∙ on-V _ _ _ _ _ (omega arith)
 
@@ -34,15 +22,4 @@ returns-5 : tie.Need-returns-5
 returns-5 c = on-other _ _ _ _ _ (λ e. omega arith) (λ e. omega arith) (λ e. omega arith) (λ e. omega arith)
 
 pub by-letter-spec : {M : Type 1} → statement M
-by-letter-spec =
-    tie.close
-    (tie.spec
-    vertical-requires
-    horizontal-requires
-    piece-requires
-    scrap-requires
-    returns
-    returns-2
-    returns-3
-    returns-4
-    returns-5)
+by-letter-spec = tie.close (tie.spec (λ c κs. search needs) (λ c κs. search needs) (λ c κs. search needs) (λ c κs. search needs) returns returns-2 returns-3 returns-4 returns-5)

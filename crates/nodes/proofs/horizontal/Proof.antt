@@ -6,9 +6,6 @@ use borrow.Author.Needs.{needs}
 use Rattle.nodes.proofs.horizontal.Statement.{statement}
 use Rattle.nodes.proofs.horizontal.Tie as tie
 
-is-inside-requires : tie.Need-is-inside-requires
-is-inside-requires c κs = search needs
-
 returns : tie.Need-returns
 returns c = horizontal-broken _ _ _ (sym (c .before .is-inside .ensures) ∙ not-true _ (c .if1 .taken))
 
@@ -19,4 +16,4 @@ returns-2 : tie.Need-returns-2
 returns-2 c = horizontal-kept _ (c .before .before .before .args .sides) _ (sym (c .before .before .is-inside .ensures) ∙ not-false _ (c .before .if1 .left))
 
 pub horizontal-spec : {M : Type 1} → statement M
-horizontal-spec = tie.close (tie.spec is-inside-requires returns sub-t7 returns-2)
+horizontal-spec = tie.close (tie.spec (λ c κs. search needs) returns sub-t7 returns-2)

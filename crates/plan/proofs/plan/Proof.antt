@@ -7,15 +7,9 @@ use borrow.Author.Needs.{needs}
 use Rattle.plan.proofs.plan.Statement.{statement}
 use Rattle.plan.proofs.plan.Tie as tie
 
-plan-refused-requires : tie.Need-plan-refused-requires
-plan-refused-requires c κs = search needs
-
 returns : tie.Need-returns
 unfolding planned plannedBytes
 returns c = refused-answer _ _ _ (c .before .plan-refused .ensures) (c .if1 .taken)
-
-wide-requires : tie.Need-wide-requires
-wide-requires c κs = search needs
 
 cell-requires : tie.Need-cell-requires
 cell-requires c κs =
@@ -33,9 +27,6 @@ cast-t15 c =
     let passed = c .before .before .before .before .before .before in
     omega (arith, length-fits _ _ _ _ (plan-granted _ _ _ _ _ (passed .before .plan-refused .ensures) (passed .if1 .left)) (c .before .before .write-file .ensures))
 
-same-length : tie.Need-same-length
-same-length c = search needs
-
 returns-2 : tie.Need-returns-2
 unfolding planned plannedBytes
 returns-2 c =
@@ -44,14 +35,4 @@ returns-2 c =
     written-answer (passed .before .plan-refused .ensures) (passed .if1 .left) (c .before .before .write-file .ensures) (cell-read (start .args .job) _ _ _ (c .before .before .before .before .cell .ensures) (c .before .before .before .before .before .wide .ensures))
 
 pub plan-spec : {M : Type 1} → statement M
-plan-spec =
-    tie.close
-    (tie.spec
-    plan-refused-requires
-    returns
-    wide-requires
-    cell-requires
-    write-file-requires
-    cast-t15
-    same-length
-    returns-2)
+plan-spec = tie.close (tie.spec (λ c κs. search needs) returns (λ c κs. search needs) cell-requires write-file-requires cast-t15 (λ c. search needs) returns-2)

@@ -6,12 +6,6 @@ use borrow.Author.Needs.{needs}
 use Rattle.points.proofs.makes.Statement.{statement}
 use Rattle.points.proofs.makes.Tie as tie
 
-sub-result : tie.Need-sub-result
-sub-result c = search needs
-
-element-copy-out-result : tie.Need-element-copy-out-result
-element-copy-out-result c = search needs
-
 returns : tie.Need-returns
 returns c = sym (makes-smaller _ (c .before .before .args .size) (c .before .before .args .c) (omega arith))
 
@@ -19,4 +13,4 @@ returns-2 : tie.Need-returns-2
 returns-2 c = sym (makes-alone _ (c .before .args .size) (c .before .args .c) (omega arith))
 
 pub makes-spec : {M : Type 1} → statement M
-makes-spec = tie.close (tie.spec sub-result element-copy-out-result returns returns-2)
+makes-spec = tie.close (tie.spec (λ c. search needs) (λ c. search needs) returns returns-2)

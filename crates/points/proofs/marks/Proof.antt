@@ -17,18 +17,6 @@ abbrev μ-loop : tie.MeasureT-loop
 loop-holds : tie.Need-loop-holds Inv-loop μ-loop
 loop-holds c = (omega arith, marksOf-none _ _)
 
-add-last : tie.Need-add-last Inv-loop μ-loop
-add-last c = omega arith
-
-reached-requires : tie.Need-reached-requires Inv-loop μ-loop
-reached-requires c κs = omega arith
-
-array-write-found : tie.Need-array-write-found Inv-loop μ-loop
-array-write-found c = omega arith
-
-loop-less : tie.Need-loop-less Inv-loop μ-loop
-loop-less c = omega arith
-
 loop-again : tie.Need-loop-again Inv-loop μ-loop
 loop-again c =
     (omega arith, marksOf-more _ _ _ (omega arith) (c .before .before .before .loop .inv .1) (c .reached .ensures))
@@ -39,15 +27,4 @@ returns c =
     rw (← end) (c .before .loop .inv .1)
 
 pub marks-spec : {M : Type 1} → statement M
-marks-spec =
-    tie.close
-    (tie.spec
-    Inv-loop
-    μ-loop
-    loop-holds
-    add-last
-    reached-requires
-    array-write-found
-    loop-less
-    loop-again
-    returns)
+marks-spec = tie.close (tie.spec Inv-loop μ-loop loop-holds (λ c. omega arith) (λ c κs. omega arith) (λ c. omega arith) (λ c. omega arith) loop-again returns)

@@ -54,18 +54,6 @@ line-lies t c = line-within _ _ _ (chosen-line t c)
 measure-choose-requires : (t : ℕ) → measure-lts.Need-choose-requires (measure-calls t) (measure-at t) measure.Post
 measure-choose-requires t c κs = c .before .pre .1
 
-measure-enum-told : (t : ℕ) → measure-lts.Need-enum-told (measure-calls t) (measure-at t) measure.Post
-measure-enum-told t c = search needs
-
-measure-enum-told-2 : (t : ℕ) → measure-lts.Need-enum-told-2 (measure-calls t) (measure-at t) measure.Post
-measure-enum-told-2 t c = search needs
-
-measure-enum-known-choice : (t : ℕ) → measure-lts.Need-enum-known-choice (measure-calls t) (measure-at t) measure.Post
-measure-enum-known-choice t c = search needs
-
-measure-near-requires : (t : ℕ) → measure-lts.Need-near-requires (measure-calls t) (measure-at t) measure.Post
-measure-near-requires t c κs = search needs
-
 measure-measure-requires : (t : ℕ) → measure-lts.Need-measure-requires (measure-calls t) (measure-at t) measure.Post
 measure-measure-requires t c κs =
     let lies = line-lies t (c .before) in
@@ -87,15 +75,9 @@ measure-together-requires t c κs =
     let ready = c .before .before .before .before .before .before .before .before .before .pre .1 in
     (short-of (rows t (c .before .before .before .before .before .before .before .before .before)) (cell t (c .before .before .before .before .before .before .before .before .before)) (near-ready ready (c .before .before .before .near .ensures) lies) (c .before .before .measure .ensures), short-of (rows t (c .before .before .before .before .before .before .before .before .before)) (cell t (c .before .before .before .before .before .before .before .before .before)) (far-ready ready (c .before .far .ensures) lies) (c .measure2 .ensures))
 
-measure-enum-known-choice-2 : (t : ℕ) → measure-lts.Need-enum-known-choice-2 (measure-calls t) (measure-at t) measure.Post
-measure-enum-known-choice-2 t c = search needs
-
 measure-trimmed-length-requires : (t : ℕ) → measure-lts.Need-trimmed-length-requires (measure-calls t) (measure-at t) measure.Post
 unfolding rowsOf
 measure-trimmed-length-requires t c κs = trim-among _ _ _ (c .before .before .before .before .before .pre .1 .few) (sym (c .before .before .before .choose .ensures) ∙ c .before .choice2 .given .1)
-
-measure-enum-told-3 : (t : ℕ) → measure-lts.Need-enum-told-3 (measure-calls t) (measure-at t) measure.Post
-measure-enum-told-3 t c = search needs
 
 measure-returns : (t : ℕ) → measure-lts.Need-returns (measure-calls t) (measure-at t) measure.Post
 measure-returns t c = measured-scrap _ _ _ (real-of (c .before .before .before .before .pre .1)) (sym (c .before .before .choose .ensures) ∙ c .enum-told .given .1)
@@ -115,21 +97,4 @@ measure-returns-5 : (t : ℕ) → measure-lts.Need-returns-5 (measure-calls t) (
 measure-returns-5 t c = measured-nothing _ _ _ (real-of (c .before .before .before .before .pre .1)) (sym (c .before .before .choose .ensures) ∙ c .enum-told3 .given .1)
 
 pub +measure-spec : {M : Type 1} → statement M
-+measure-spec = close μ-measure λ t. measure-lts.spec (measure-calls t) (measure-at t) measure.Post
-    (measure-choose-requires t)
-    (measure-enum-told t)
-    (measure-enum-told-2 t)
-    (measure-enum-known-choice t)
-    (measure-near-requires t)
-    (measure-measure-requires t)
-    (measure-far-requires t)
-    (measure-measure-requires-2 t)
-    (measure-together-requires t)
-    (measure-enum-known-choice-2 t)
-    (measure-trimmed-length-requires t)
-    (measure-enum-told-3 t)
-    (measure-returns t)
-    (measure-returns-2 t)
-    (measure-returns-3 t)
-    (measure-returns-4 t)
-    (measure-returns-5 t)
++measure-spec = close μ-measure λ t. measure-lts.spec (measure-calls t) (measure-at t) measure.Post (measure-choose-requires t) (λ c. search needs) (λ c. search needs) (λ c. search needs) (λ c κs. search needs) (measure-measure-requires t) (measure-far-requires t) (measure-measure-requires-2 t) (measure-together-requires t) (λ c. search needs) (measure-trimmed-length-requires t) (λ c. search needs) (measure-returns t) (measure-returns-2 t) (measure-returns-3 t) (measure-returns-4 t) (measure-returns-5 t)

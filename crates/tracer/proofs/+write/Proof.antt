@@ -66,14 +66,8 @@ node-wrote t c = wrote-letter _ (c .before .letter-of .ensures) (c .write-node3 
 write-choose-requires : (t : ℕ) → write-lts.Need-choose-requires (write-calls t) (write-at t) write.Post
 write-choose-requires t c κs = c .before .before .pre .1 .0
 
-write-enum-told : (t : ℕ) → write-lts.Need-enum-told (write-calls t) (write-at t) write.Post
-write-enum-told t c = search needs
-
 write-write-node-requires : (t : ℕ) → write-lts.Need-write-node-requires (write-calls t) (write-at t) write.Post
 write-write-node-requires t c κs = (node-space _ _ (room-as (nodes-scrap _ _ _ (real-of (c .before .before .before .before .before .before .pre .1 .0)) (sym (c .before .before .before .choose .ensures) ∙ c .before .enum-told .given .1)) (c .before .before .before .before .before .before .pre .1 .1)), omega arith)
-
-write-enum-known-choice : (t : ℕ) → write-lts.Need-enum-known-choice (write-calls t) (write-at t) write.Post
-write-enum-known-choice t c = search needs
 
 write-add-write-node : (t : ℕ) → write-lts.Need-add-write-node (write-calls t) (write-at t) write.Post
 unfolding rowsOf
@@ -86,17 +80,8 @@ unfolding rowsOf
 write-write-node-requires-2 t c κs =
     (node-space _ _ (room-as (nodes-piece _ _ _ (real-of (c .before .before .before .before .before .before .before .pre .1 .0)) (sym (c .before .before .before .before .choose .ensures) ∙ c .before .before .choice .given .1)) (c .before .before .before .before .before .before .before .pre .1 .1)), piece-small _ _ _ (c .before .before .before .before .before .before .before .pre .1 .0 .few) (sym (c .before .before .before .before .choose .ensures) ∙ c .before .before .choice .given .1))
 
-write-enum-known-choice-2 : (t : ℕ) → write-lts.Need-enum-known-choice-2 (write-calls t) (write-at t) write.Post
-write-enum-known-choice-2 t c = search needs
-
-write-letter-of-requires : (t : ℕ) → write-lts.Need-letter-of-requires (write-calls t) (write-at t) write.Post
-write-letter-of-requires t c κs = search needs
-
 write-write-node-requires-3 : (t : ℕ) → write-lts.Need-write-node-requires-3 (write-calls t) (write-at t) write.Post
 write-write-node-requires-3 t c κs = (node-space _ _ (line-room _ _ _ _ (parts-room t (c .before .before) refl refl)), line-small (c .before .before .before .before .before .before .before .before .pre .1 .0) (line-lies t (c .before .before)))
-
-write-near-requires : (t : ℕ) → write-lts.Need-near-requires (write-calls t) (write-at t) write.Post
-write-near-requires t c κs = search needs
 
 write-write-requires : (t : ℕ) → write-lts.Need-write-requires (write-calls t) (write-at t) write.Post
 write-write-requires t c κs =
@@ -115,33 +100,18 @@ write-write-requires-2 t c κs =
     let far = c .before .far .ensures in
     (far-less ready far lies (c .before .before .before .before .before .before .before .before .before .before .before .before .before .before .before .before .before .before .pre .0), (far-ready ready far lies, far-room _ _ _ _ (parts-room t (c .before .before .before .before .before .before .before .before .before .before .before .before) (c .before .before .before .before .before .before .near .ensures) far) (node-wrote t (c .before .before .before .before .before .before .before .before .before)) (c .before .before .before .before .write .ensures)))
 
-write-enum-known-choice-3 : (t : ℕ) → write-lts.Need-enum-known-choice-3 (write-calls t) (write-at t) write.Post
-write-enum-known-choice-3 t c = search needs
-
 write-write-piece-out-requires : (t : ℕ) → write-lts.Need-write-piece-out-requires (write-calls t) (write-at t) write.Post
 unfolding rowsOf
 write-write-piece-out-requires t c κs = (room-as (nodes-trim _ _ _ (real-of (c .before .before .before .before .before .before .before .pre .1 .0)) (sym (c .before .before .before .before .choose .ensures) ∙ c .before .before .choice3 .given .1)) (c .before .before .before .before .before .before .before .pre .1 .1), trim-among _ _ _ (c .before .before .before .before .before .before .before .pre .1 .0 .few) (sym (c .before .before .before .before .choose .ensures) ∙ c .before .before .choice3 .given .1))
 
-write-enum-told-2 : (t : ℕ) → write-lts.Need-enum-told-2 (write-calls t) (write-at t) write.Post
-write-enum-told-2 t c = search needs
-
 write-write-node-requires-4 : (t : ℕ) → write-lts.Need-write-node-requires-4 (write-calls t) (write-at t) write.Post
 write-write-node-requires-4 t c κs = (node-space _ _ (room-as (nodes-nothing _ _ _ (real-of (c .before .before .before .before .before .before .pre .1 .0)) (sym (c .before .before .before .choose .ensures) ∙ c .before .enum-told2 .given .1)) (c .before .before .before .before .before .before .pre .1 .1)), omega arith)
-
-write-same-length : (t : ℕ) → write-lts.Need-same-length (write-calls t) (write-at t) write.Post
-write-same-length t c = search needs
 
 write-returns : (t : ℕ) → write-lts.Need-returns (write-calls t) (write-at t) write.Post
 write-returns t c = wrote-as (nodes-scrap _ _ _ (real-of (c .before .before .before .before .before .before .before .before .before .pre .1 .0)) (sym (c .before .before .before .before .before .before .choose .ensures) ∙ c .before .before .before .before .enum-told .given .1)) (c .before .before .write-node .ensures)
 
-write-same-length-2 : (t : ℕ) → write-lts.Need-same-length-2 (write-calls t) (write-at t) write.Post
-write-same-length-2 t c = search needs
-
 write-returns-2 : (t : ℕ) → write-lts.Need-returns-2 (write-calls t) (write-at t) write.Post
 write-returns-2 t c = wrote-as (nodes-piece _ _ _ (real-of (c .before .before .before .before .before .before .before .before .before .before .pre .1 .0)) (sym (c .before .before .before .before .before .before .before .choose .ensures) ∙ c .before .before .before .before .before .choice .given .1)) (c .before .before .write-node2 .ensures)
-
-write-same-length-3 : (t : ℕ) → write-lts.Need-same-length-3 (write-calls t) (write-at t) write.Post
-write-same-length-3 t c = search needs
 
 write-returns-3 : (t : ℕ) → write-lts.Need-returns-3 (write-calls t) (write-at t) write.Post
 write-returns-3 t c =
@@ -150,45 +120,12 @@ write-returns-3 t c =
     wrote-as (nodes-line _ _ _ (real-of (c .before .before .before .before .before .before .before .before .before .before .before .before .before .before .before .before .before .before .before .before .before .pre .1 .0)) (chosen-line t (c .before .before .before .before .before .before .before .before .before .before .before .before .before .before .before)) near far)
     (wrote-line _ _ _ _ (parts-room t (c .before .before .before .before .before .before .before .before .before .before .before .before .before .before .before) near far) (node-wrote t (c .before .before .before .before .before .before .before .before .before .before .before .before)) (c .before .before .before .before .before .before .before .write .ensures) (c .before .before .write2 .ensures))
 
-write-same-length-4 : (t : ℕ) → write-lts.Need-same-length-4 (write-calls t) (write-at t) write.Post
-write-same-length-4 t c = search needs
-
 write-returns-4 : (t : ℕ) → write-lts.Need-returns-4 (write-calls t) (write-at t) write.Post
 unfolding rowsOf
 write-returns-4 t c = wrote-as (nodes-trim _ _ _ (real-of (c .before .before .before .before .before .before .before .before .before .before .pre .1 .0)) (sym (c .before .before .before .before .before .before .before .choose .ensures) ∙ c .before .before .before .before .before .choice3 .given .1)) (c .before .before .write-piece-out .ensures)
-
-write-same-length-5 : (t : ℕ) → write-lts.Need-same-length-5 (write-calls t) (write-at t) write.Post
-write-same-length-5 t c = search needs
 
 write-returns-5 : (t : ℕ) → write-lts.Need-returns-5 (write-calls t) (write-at t) write.Post
 write-returns-5 t c = wrote-as (nodes-nothing _ _ _ (real-of (c .before .before .before .before .before .before .before .before .before .pre .1 .0)) (sym (c .before .before .before .before .before .before .choose .ensures) ∙ c .before .before .before .before .enum-told2 .given .1)) (c .before .before .write-node4 .ensures)
 
 pub +write-spec : {M : Type 1} → statement M
-+write-spec = close μ-write λ t. write-lts.spec (write-calls t) (write-at t) write.Post
-    (write-choose-requires t)
-    (write-enum-told t)
-    (write-write-node-requires t)
-    (write-enum-known-choice t)
-    (write-add-write-node t)
-    (write-write-node-requires-2 t)
-    (write-enum-known-choice-2 t)
-    (write-letter-of-requires t)
-    (write-write-node-requires-3 t)
-    (write-near-requires t)
-    (write-write-requires t)
-    (write-far-requires t)
-    (write-write-requires-2 t)
-    (write-enum-known-choice-3 t)
-    (write-write-piece-out-requires t)
-    (write-enum-told-2 t)
-    (write-write-node-requires-4 t)
-    (write-same-length t)
-    (write-returns t)
-    (write-same-length-2 t)
-    (write-returns-2 t)
-    (write-same-length-3 t)
-    (write-returns-3 t)
-    (write-same-length-4 t)
-    (write-returns-4 t)
-    (write-same-length-5 t)
-    (write-returns-5 t)
++write-spec = close μ-write λ t. write-lts.spec (write-calls t) (write-at t) write.Post (write-choose-requires t) (λ c. search needs) (write-write-node-requires t) (λ c. search needs) (write-add-write-node t) (write-write-node-requires-2 t) (λ c. search needs) (λ c κs. search needs) (write-write-node-requires-3 t) (λ c κs. search needs) (write-write-requires t) (write-far-requires t) (write-write-requires-2 t) (λ c. search needs) (write-write-piece-out-requires t) (λ c. search needs) (write-write-node-requires-4 t) (λ c. search needs) (write-returns t) (λ c. search needs) (write-returns-2 t) (λ c. search needs) (write-returns-3 t) (λ c. search needs) (write-returns-4 t) (λ c. search needs) (write-returns-5 t)

@@ -5,22 +5,13 @@ use borrow.Author.Needs.{needs}
 use Rattle.tracer.proofs.choose.Statement.{statement}
 use Rattle.tracer.proofs.choose.Tie as tie
 
-number-of-requires : tie.Need-number-of-requires
-number-of-requires c κs = search needs
-
 returns : tie.Need-returns
 unfolding rowsOf
 returns c = rule1 _ _ _ (c .before .number-of .ensures .0) (c .if1 .taken)
 
-first-piece-requires : tie.Need-first-piece-requires
-first-piece-requires c κs = search needs
-
 returns-2 : tie.Need-returns-2
 unfolding rowsOf
 returns-2 c = rule2 _ _ _ (c .before .before .before .number-of .ensures .0) (c .before .before .if1 .left) (c .before .first-piece .ensures) (c .if2 .taken)
-
-least-line-requires : tie.Need-least-line-requires
-least-line-requires c κs = search needs
 
 returns-3 : tie.Need-returns-3
 unfolding rowsOf
@@ -29,9 +20,6 @@ returns-3 c =
     (record { zero = c .before .before .before .before .before .if1 .left; exact = c .before .before .before .before .first-piece .ensures; none = c .before .before .before .if2 .left })
     (c .before .before .least-line .ensures)
     (c .if3 .taken)
-
-least-line-requires-2 : tie.Need-least-line-requires-2
-least-line-requires-2 c κs = search needs
 
 returns-4 : tie.Need-returns-4
 unfolding rowsOf
@@ -44,9 +32,6 @@ returns-4 c =
     })
     (c .before .before .least-line2 .ensures)
     (c .if4 .taken)
-
-first-piece-requires-2 : tie.Need-first-piece-requires-2
-first-piece-requires-2 c κs = search needs
 
 returns-5 : tie.Need-returns-5
 unfolding rowsOf
@@ -81,17 +66,4 @@ returns-6 c =
     (c .if5 .left)
 
 pub choose-spec : {M : Type 1} → statement M
-choose-spec =
-    tie.close
-    (tie.spec
-    number-of-requires
-    returns
-    first-piece-requires
-    returns-2
-    least-line-requires
-    returns-3
-    least-line-requires-2
-    returns-4
-    first-piece-requires-2
-    returns-5
-    returns-6)
+choose-spec = tie.close (tie.spec (λ c κs. search needs) returns (λ c κs. search needs) returns-2 (λ c κs. search needs) returns-3 (λ c κs. search needs) returns-4 (λ c κs. search needs) returns-5 returns-6)

@@ -16,9 +16,6 @@ Inv-loop tall marks cells a number sides half before₀ before = (before ≤ hal
 abbrev μ-loop : tie.MeasureT-loop
 μ-loop tall marks cells a number sides half before₀ before = half - before
 
-side-of-requires : tie.Need-side-of-requires Inv-loop μ-loop
-side-of-requires c κs = search needs
-
 loop-holds : tie.Need-loop-holds Inv-loop μ-loop
 loop-holds c = (omega arith, line-start _ _ _ _ _)
 
@@ -37,9 +34,6 @@ returns c = line-stop _ _ _ _ _ _ _ (ap (λ k. k / 2) (c .before .before .before
 add-before : tie.Need-add-before Inv-loop μ-loop
 add-before c = omega (arith, side-most (c .before .before .before .before .before .before .args .tall) _ (c .before .before .before .before .before .before .pre), c .before .before .before .before .side-of .ensures)
 
-loop-less : tie.Need-loop-less Inv-loop μ-loop
-loop-less c = omega arith
-
 loop-again : tie.Need-loop-again Inv-loop μ-loop
 loop-again c = (omega arith, line-more _ _ _ _ _ _ (c .before .before .before .loop .inv .1) (c .before .adds-to .ensures) (c .if1 .left))
 
@@ -50,19 +44,4 @@ returns-2 : tie.Need-returns-2 Inv-loop μ-loop
 returns-2 c = line-end _ _ _ _ _ _ _ (ap (λ k. k / 2) (c .before .before .side-of .ensures)) (omega arith) (c .before .loop .inv .1)
 
 pub least-line-spec : {M : Type 1} → statement M
-least-line-spec =
-    tie.close
-    (tie.spec
-    Inv-loop
-    μ-loop
-    side-of-requires
-    loop-holds
-    add-adds-to
-    adds-to-requires
-    add-result
-    returns
-    add-before
-    loop-less
-    loop-again
-    add-result-2
-    returns-2)
+least-line-spec = tie.close (tie.spec Inv-loop μ-loop (λ c κs. search needs) loop-holds add-adds-to adds-to-requires add-result returns add-before (λ c. omega arith) loop-again add-result-2 returns-2)

@@ -7,20 +7,8 @@ use borrow.Author.Needs.{needs}
 use Rattle.tracer.proofs.write_node.Statement.{statement}
 use Rattle.tracer.proofs.write_node.Tie as tie
 
-slice-write-o : tie.Need-slice-write-o
-slice-write-o c = search needs
-
-add-put2 : tie.Need-add-put2
-add-put2 c = search needs
-
-cast-put2 : tie.Need-cast-put2
-cast-put2 c = search needs
-
 put2-requires : tie.Need-put2-requires
 put2-requires c κs = simp length-set (omega arith)
-
-add-result : tie.Need-add-result
-add-result c = search needs
 
 same-length : tie.Need-same-length
 same-length c = c .before .before .put2 .kept .0 ∙ simp length-set
@@ -29,6 +17,4 @@ returns : tie.Need-returns
 returns c = wrote-node _ _ (c .before .before .before .before .before .pre .0) (c .before .before .put2 .ensures)
 
 pub write-node-spec : {M : Type 1} → statement M
-write-node-spec =
-    tie.close
-    (tie.spec slice-write-o add-put2 cast-put2 put2-requires add-result same-length returns)
+write-node-spec = tie.close (tie.spec (λ c. search needs) (λ c. search needs) (λ c. search needs) put2-requires (λ c. search needs) same-length returns)

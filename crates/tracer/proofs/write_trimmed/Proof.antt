@@ -12,9 +12,6 @@ write-up-requires : tie.Need-write-up-requires
 unfolding encode letterOf trimmed
 write-up-requires c κs = (whole-room false _ _ _ (c .before .if1 .taken) (c .before .before .before .before .pre .0), c .before .before .before .before .pre .2, c .before .before .before .before .pre .3)
 
-same-length : tie.Need-same-length
-same-length c = search needs
-
 returns : tie.Need-returns
 unfolding encode letterOf trimmed
 returns c = wrote-whole false _ _ _ (c .before .before .before .before .if1 .taken) (c .before .before .write-up .ensures)
@@ -31,22 +28,9 @@ write-node-requires-2 : tie.Need-write-node-requires-2
 unfolding encode letterOf trimmed
 write-node-requires-2 c κs = (node-space _ _ (far-room _ _ _ _ (cut-room false _ _ _ (c .before .before .before .before .before .before .before .before .before .if1 .left) (c .before .before .before .before .before .before .before .before .before .before .before .before .pre .0)) (c .before .before .before .before .before .before .before .write-node .ensures) (c .before .before .before .write-up2 .ensures)), omega arith)
 
-same-length-2 : tie.Need-same-length-2
-same-length-2 c = search needs
-
 returns-2 : tie.Need-returns-2
 unfolding encode letterOf trimmed
 returns-2 c = wrote-cut false _ _ _ (c .before .before .before .before .before .before .before .before .before .before .before .before .if1 .left) (wrote-line _ _ _ _ (cut-room false _ _ _ (c .before .before .before .before .before .before .before .before .before .before .before .before .if1 .left) (c .before .before .before .before .before .before .before .before .before .before .before .before .before .before .before .pre .0)) (c .before .before .before .before .before .before .before .before .before .before .write-node .ensures) (c .before .before .before .before .before .before .write-up2 .ensures) (c .before .before .write-node2 .ensures))
 
 pub write-trimmed-spec : {M : Type 1} → statement M
-write-trimmed-spec =
-    tie.close
-    (tie.spec
-    write-up-requires
-    same-length
-    returns
-    write-node-requires
-    write-up-requires-2
-    write-node-requires-2
-    same-length-2
-    returns-2)
+write-trimmed-spec = tie.close (tie.spec write-up-requires (λ c. search needs) returns write-node-requires write-up-requires-2 write-node-requires-2 (λ c. search needs) returns-2)

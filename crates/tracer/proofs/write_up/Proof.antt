@@ -8,15 +8,9 @@ use borrow.Author.Needs.{needs}
 use Rattle.tracer.proofs.write_up.Statement.{statement}
 use Rattle.tracer.proofs.write_up.Tie as tie
 
-add-write-node : tie.Need-add-write-node
-add-write-node c = search needs
-
 write-node-requires : tie.Need-write-node-requires
 unfolding encode letterOf
 write-node-requires c κs = (node-space _ _ (whole-room true _ _ _ (c .before .if1 .taken) (c .before .before .before .pre .0)), omega arith)
-
-same-length : tie.Need-same-length
-same-length c = search needs
 
 returns : tie.Need-returns
 unfolding encode letterOf
@@ -26,9 +20,6 @@ write-node-requires-2 : tie.Need-write-node-requires-2
 unfolding encode letterOf
 write-node-requires-2 c κs = (node-space _ _ (line-room _ _ _ _ (cut-room true _ _ _ (c .before .if1 .left) (c .before .before .before .pre .0))), omega arith)
 
-add-write-node-2 : tie.Need-add-write-node-2
-add-write-node-2 c = search needs
-
 write-node-requires-3 : tie.Need-write-node-requires-3
 unfolding encode letterOf
 write-node-requires-3 c κs = (node-space _ _ (near-room _ _ _ _ (cut-room true _ _ _ (c .before .before .before .before .before .if1 .left) (c .before .before .before .before .before .before .before .pre .0)) (c .before .before .before .write-node2 .ensures)), omega arith)
@@ -37,24 +28,9 @@ write-node-requires-4 : tie.Need-write-node-requires-4
 unfolding encode letterOf
 write-node-requires-4 c κs = (node-space _ _ (far-room _ _ _ _ (cut-room true _ _ _ (c .before .before .before .before .before .before .before .before .before .if1 .left) (c .before .before .before .before .before .before .before .before .before .before .before .pre .0)) (c .before .before .before .before .before .before .before .write-node2 .ensures) (c .before .before .before .write-node3 .ensures)), omega arith)
 
-same-length-2 : tie.Need-same-length-2
-same-length-2 c = search needs
-
 returns-2 : tie.Need-returns-2
 unfolding encode letterOf
 returns-2 c = wrote-cut true _ _ _ (c .before .before .before .before .before .before .before .before .before .before .before .before .if1 .left) (wrote-line _ _ _ _ (cut-room true _ _ _ (c .before .before .before .before .before .before .before .before .before .before .before .before .if1 .left) (c .before .before .before .before .before .before .before .before .before .before .before .before .before .before .pre .0)) (c .before .before .before .before .before .before .before .before .before .before .write-node2 .ensures) (c .before .before .before .before .before .before .write-node3 .ensures) (c .before .before .write-node4 .ensures))
 
 pub write-up-spec : {M : Type 1} → statement M
-write-up-spec =
-    tie.close
-    (tie.spec
-    add-write-node
-    write-node-requires
-    same-length
-    returns
-    write-node-requires-2
-    add-write-node-2
-    write-node-requires-3
-    write-node-requires-4
-    same-length-2
-    returns-2)
+write-up-spec = tie.close (tie.spec (λ c. search needs) write-node-requires (λ c. search needs) returns write-node-requires-2 (λ c. search needs) write-node-requires-3 write-node-requires-4 (λ c. search needs) returns-2)

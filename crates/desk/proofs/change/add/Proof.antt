@@ -6,17 +6,6 @@ use Rattle.desk.specs.Inner.{addedJob, addedCells}
 use borrow.Author.Needs.{needs}
 use Rattle.desk.proofs.change.add.Statement.{statement}
 use Rattle.desk.proofs.change.add.Tie as tie
-use Rattle.desk.proofs.change.add.Reads as reads
-use Rattle.desk.proofs.change.add.Lts as lts
-use Rattle.desk.proofs.change.empty_size.Reads as empty-size-reads
-use Rattle.desk.proofs.refusal.add_refused.Reads as add-refused-reads
-use Rattle.job.proofs.Job.with_added.Reads as with-added-reads
-
-add-refused-requires : tie.Need-add-refused-requires
-add-refused-requires c κs = search needs
-
-same-length : tie.Need-same-length
-same-length c = search needs
 
 returns : tie.Need-returns
 unfolding addedJob addedCells
@@ -30,21 +19,9 @@ empty-size-requires c κs =
     let g = add-granted _ _ _ (c .before .before .before .add-refused .ensures) (c .before .before .if1 .left) in
     (g .usable, (g .range .widthLeast, g .range .heightLeast))
 
-same-length-2 : tie.Need-same-length-2
-same-length-2 c = search needs
-
 returns-2 : tie.Need-returns-2
 unfolding addedJob addedCells
 returns-2 c = change-given _ _ (c .before .before .before .before .before .before .add-refused .ensures) (c .before .before .before .before .before .if1 .left) (c .before .before .before .before .with-added .ensures) (c .before .before .empty-size .ensures)
 
 pub add-spec : {M : Type 1} → statement M
-add-spec =
-    tie.close
-    (tie.spec
-    add-refused-requires
-    same-length
-    returns
-    with-added-requires
-    empty-size-requires
-    same-length-2
-    returns-2)
+add-spec = tie.close (tie.spec (λ c κs. search needs) (λ c. search needs) returns with-added-requires empty-size-requires (λ c. search needs) returns-2)

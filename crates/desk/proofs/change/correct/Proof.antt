@@ -6,18 +6,6 @@ use Rattle.desk.specs.Inner.{emptiedSize, correctedJob, correctedCells}
 use borrow.Author.Needs.{needs}
 use Rattle.desk.proofs.change.correct.Statement.{statement}
 use Rattle.desk.proofs.change.correct.Tie as tie
-use Rattle.desk.proofs.change.correct.Reads as reads
-use Rattle.desk.proofs.change.correct.Lts as lts
-use Rattle.desk.proofs.change.empty_size.Reads as empty-size-reads
-use Rattle.desk.proofs.change.piece_of.Reads as piece-of-reads
-use Rattle.desk.proofs.refusal.correct_refused.Reads as correct-refused-reads
-use Rattle.job.proofs.Job.with_corrected.Reads as with-corrected-reads
-
-correct-refused-requires : tie.Need-correct-refused-requires
-correct-refused-requires c κs = search needs
-
-same-length : tie.Need-same-length
-same-length c = search needs
 
 returns : tie.Need-returns
 unfolding correctedJob correctedCells
@@ -44,9 +32,6 @@ empty-size-requires-2 c κs =
     let g = correct-granted _ _ _ _ (c .before .before .before .before .before .before .before .before .correct-refused .ensures) (c .before .before .before .before .before .before .before .if1 .left) in
     (usable-still _ _ _ (c .before .before .before .empty-size .ensures) (g .usable), (g .range .widthLeast, g .range .heightLeast))
 
-same-length-2 : tie.Need-same-length-2
-same-length-2 c = search needs
-
 returns-2 : tie.Need-returns-2
 unfolding correctedJob correctedCells
 returns-2 c =
@@ -55,15 +40,4 @@ returns-2 c =
     (emptied-both _ _ _ _ (g .usable) (c .before .before .before .before .before .before .empty-size .ensures ∙ ap (λ r. emptiedSize (c .before .before .before .before .before .before .before .before .before .before .before .before .before .before .args .job) r (c .before .before .before .before .before .before .before .before .before .before .before .before .before .before .args .t .now)) (c .before .before .before .before .before .before .before .piece-of .ensures)) (c .before .before .empty-size2 .ensures))
 
 pub correct-spec : {M : Type 1} → statement M
-correct-spec =
-    tie.close
-    (tie.spec
-    correct-refused-requires
-    same-length
-    returns
-    with-corrected-requires
-    piece-of-requires
-    empty-size-requires
-    empty-size-requires-2
-    same-length-2
-    returns-2)
+correct-spec = tie.close (tie.spec (λ c κs. search needs) (λ c. search needs) returns with-corrected-requires piece-of-requires empty-size-requires empty-size-requires-2 (λ c. search needs) returns-2)

@@ -3,40 +3,12 @@ use Rattle.desk.proofs.Answers.{size-holds, size-emptied}
 use borrow.Author.Needs.{needs}
 use Rattle.desk.proofs.change.empty_size.Statement.{statement}
 use Rattle.desk.proofs.change.empty_size.Tie as tie
-use Rattle.desk.proofs.change.empty_size.Reads as reads
-use Rattle.desk.proofs.change.empty_size.Lts as lts
-use Rattle.cells.proofs.empty_where_fits.Reads as empty-where-fits-reads
-use Rattle.desk.proofs.change.wide.Reads as wide-reads
-
-wide-requires : tie.Need-wide-requires
-wide-requires c κs = search needs
-
-wide-requires-2 : tie.Need-wide-requires-2
-wide-requires-2 c κs = search needs
-
-wide-requires-3 : tie.Need-wide-requires-3
-wide-requires-3 c κs = search needs
-
-wide-requires-4 : tie.Need-wide-requires-4
-wide-requires-4 c κs = search needs
 
 empty-where-fits-requires : tie.Need-empty-where-fits-requires
 empty-where-fits-requires c κs = size-holds _ (c .before .before .before .before .before .before .args .size) _ (c .before .before .before .before .before .before .pre .0) (c .before .before .before .before .before .before .pre .1) (c .before .before .before .wide .ensures) (c .before .before .wide2 .ensures) (c .before .wide3 .ensures) (c .wide4 .ensures)
-
-same-length : tie.Need-same-length
-same-length c = search needs
 
 returns : tie.Need-returns
 returns c = size-emptied _ _ _ (c .before .before .before .before .before .before .wide .ensures) (c .before .before .before .before .before .wide2 .ensures) (c .before .before .before .before .wide3 .ensures) (c .before .before .before .wide4 .ensures) (c .before .before .empty-where-fits .ensures)
 
 pub empty-size-spec : {M : Type 1} → statement M
-empty-size-spec =
-    tie.close
-    (tie.spec
-    wide-requires
-    wide-requires-2
-    wide-requires-3
-    wide-requires-4
-    empty-where-fits-requires
-    same-length
-    returns)
+empty-size-spec = tie.close (tie.spec (λ c κs. search needs) (λ c κs. search needs) (λ c κs. search needs) (λ c κs. search needs) empty-where-fits-requires (λ c. search needs) returns)

@@ -6,18 +6,6 @@ use Rattle.desk.specs.Inner.{emptiedSize, removedJob, removedCells}
 use borrow.Author.Needs.{needs}
 use Rattle.desk.proofs.change.remove.Statement.{statement}
 use Rattle.desk.proofs.change.remove.Tie as tie
-use Rattle.desk.proofs.change.remove.Reads as reads
-use Rattle.desk.proofs.change.remove.Lts as lts
-use Rattle.desk.proofs.change.empty_size.Reads as empty-size-reads
-use Rattle.desk.proofs.change.piece_of.Reads as piece-of-reads
-use Rattle.desk.proofs.refusal.remove_refused.Reads as remove-refused-reads
-use Rattle.job.proofs.Job.with_removed.Reads as with-removed-reads
-
-remove-refused-requires : tie.Need-remove-refused-requires
-remove-refused-requires c κs = search needs
-
-same-length : tie.Need-same-length
-same-length c = search needs
 
 returns : tie.Need-returns
 unfolding removedJob removedCells
@@ -39,22 +27,9 @@ empty-size-requires c κs =
     let old = record-in _ _ _ (g .usable) (g .number) (c .piece-of .ensures) in
     (g .usable, (old .widthLeast, old .heightLeast))
 
-same-length-2 : tie.Need-same-length-2
-same-length-2 c = search needs
-
 returns-2 : tie.Need-returns-2
 unfolding removedJob removedCells
 returns-2 c = change-given _ _ (c .before .before .before .before .before .before .before .remove-refused .ensures) (c .before .before .before .before .before .before .if1 .left) (c .before .before .before .before .before .with-removed .ensures) (c .before .before .empty-size .ensures ∙ ap (λ r. emptiedSize (c .before .before .before .before .before .before .before .before .before .before .args .job) r (c .before .before .before .before .before .before .before .before .before .before .args .t .now)) (c .before .before .before .piece-of .ensures))
 
 pub remove-spec : {M : Type 1} → statement M
-remove-spec =
-    tie.close
-    (tie.spec
-    remove-refused-requires
-    same-length
-    returns
-    with-removed-requires
-    piece-of-requires
-    empty-size-requires
-    same-length-2
-    returns-2)
+remove-spec = tie.close (tie.spec (λ c κs. search needs) (λ c. search needs) returns with-removed-requires piece-of-requires empty-size-requires (λ c. search needs) returns-2)

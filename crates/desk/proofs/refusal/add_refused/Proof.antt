@@ -6,20 +6,10 @@ use Rattle.desk.specs.Inner.{addRefused}
 use borrow.Author.Needs.{needs}
 use Rattle.desk.proofs.refusal.add_refused.Statement.{statement}
 use Rattle.desk.proofs.refusal.add_refused.Tie as tie
-use Rattle.desk.proofs.refusal.add_refused.Reads as reads
-use Rattle.desk.proofs.refusal.add_refused.Lts as lts
-use Rattle.desk.proofs.refusal.job_refused.Reads as job-refused-reads
-use Rattle.job.proofs.Piece.in_range.Reads as in-range-reads
-
-job-refused-requires : tie.Need-job-refused-requires
-job-refused-requires c κs = search needs
 
 returns : tie.Need-returns
 unfolding addRefused
 returns c = first-refuses _ (c .before .job-refused .ensures) (c .if1 .taken)
-
-in-range-requires : tie.Need-in-range-requires
-in-range-requires c κs = search needs
 
 returns-2 : tie.Need-returns-2
 unfolding addRefused
@@ -34,6 +24,4 @@ unfolding addRefused
 returns-4 c = first-passes (c .before .before .before .before .before .job-refused .ensures) (c .before .before .before .before .if1 .left) (first-passes (unless-yes 4 (c .before .before .before .in-range .ensures) (c .before .before .if2 .left)) refl (if-differs _ _ 5 (c .if3 .left)))
 
 pub add-refused-spec : {M : Type 1} → statement M
-add-refused-spec =
-    tie.close
-    (tie.spec job-refused-requires returns in-range-requires returns-2 returns-3 returns-4)
+add-refused-spec = tie.close (tie.spec (λ c κs. search needs) returns (λ c κs. search needs) returns-2 returns-3 returns-4)

@@ -7,29 +7,14 @@ use Rattle.desk.proofs.Exactly.{box-holds, box-test}
 use borrow.Author.Needs.{needs}
 use Rattle.desk.proofs.refusal.ask_refused.Statement.{statement}
 use Rattle.desk.proofs.refusal.ask_refused.Tie as tie
-use Rattle.desk.proofs.refusal.ask_refused.Reads as reads
-use Rattle.desk.proofs.refusal.ask_refused.Lts as lts
-use Rattle.cells.proofs.has_exceeding.Reads as has-exceeding-reads
-use Rattle.desk.proofs.refusal.inside.Reads as inside-reads
-use Rattle.desk.proofs.refusal.job_refused.Reads as job-refused-reads
-use Rattle.desk.proofs.refusal.wide.Reads as wide-reads
-
-job-refused-requires : tie.Need-job-refused-requires
-job-refused-requires c κs = search needs
 
 returns : tie.Need-returns
 unfolding askRefused
 returns c = first-refuses _ (c .before .job-refused .ensures) (c .if1 .taken)
 
-inside-requires : tie.Need-inside-requires
-inside-requires c κs = search needs
-
 returns-2 : tie.Need-returns-2
 unfolding askRefused
 returns-2 c = first-passes (c .before .before .before .job-refused .ensures) (c .before .before .if1 .left) (first-refuses _ (unless-no 3 (c .before .inside .ensures) (c .if2 .taken)) (λ e. omega arith))
-
-wide-requires : tie.Need-wide-requires
-wide-requires c κs = search needs
 
 has-exceeding-requires : tie.Need-has-exceeding-requires
 has-exceeding-requires c κs = box-holds _ _ _ _ (c .before .before .before .before .job-refused .ensures) (c .before .before .before .if1 .left) (c .before .before .inside .ensures) (c .before .if2 .left) (c .wide .ensures)
@@ -43,14 +28,4 @@ unfolding askRefused
 returns-4 c = first-passes (c .before .before .before .before .before .before .job-refused .ensures) (c .before .before .before .before .before .if1 .left) (first-passes (unless-yes 3 (c .before .before .before .before .inside .ensures) (c .before .before .before .if2 .left)) refl (if-no 7 (box-test (c .before .before .before .before .before .before .before .before .args .job) _ _ _ (c .before .has-exceeding .ensures) (c .before .before .wide .ensures)) (c .if3 .left)))
 
 pub ask-refused-spec : {M : Type 1} → statement M
-ask-refused-spec =
-    tie.close
-    (tie.spec
-    job-refused-requires
-    returns
-    inside-requires
-    returns-2
-    wide-requires
-    has-exceeding-requires
-    returns-3
-    returns-4)
+ask-refused-spec = tie.close (tie.spec (λ c κs. search needs) returns (λ c κs. search needs) returns-2 (λ c κs. search needs) has-exceeding-requires returns-3 returns-4)

@@ -4,20 +4,10 @@ use Rattle.desk.specs.Inner.{correctRefused}
 use borrow.Author.Needs.{needs}
 use Rattle.desk.proofs.refusal.correct_refused.Statement.{statement}
 use Rattle.desk.proofs.refusal.correct_refused.Tie as tie
-use Rattle.desk.proofs.refusal.correct_refused.Reads as reads
-use Rattle.desk.proofs.refusal.correct_refused.Lts as lts
-use Rattle.desk.proofs.refusal.remove_refused.Reads as remove-refused-reads
-use Rattle.job.proofs.Piece.in_range.Reads as in-range-reads
-
-remove-refused-requires : tie.Need-remove-refused-requires
-remove-refused-requires c κs = search needs
 
 returns : tie.Need-returns
 unfolding correctRefused
 returns c = first-refuses _ (c .before .remove-refused .ensures) (c .if1 .taken)
-
-in-range-requires : tie.Need-in-range-requires
-in-range-requires c κs = search needs
 
 returns-2 : tie.Need-returns-2
 unfolding correctRefused
@@ -28,5 +18,4 @@ unfolding correctRefused
 returns-3 c = first-passes (c .before .before .before .remove-refused .ensures) (c .before .before .if1 .left) (unless-yes 4 (c .before .in-range .ensures) (c .if2 .left))
 
 pub correct-refused-spec : {M : Type 1} → statement M
-correct-refused-spec =
-    tie.close (tie.spec remove-refused-requires returns in-range-requires returns-2 returns-3)
+correct-refused-spec = tie.close (tie.spec (λ c κs. search needs) returns (λ c κs. search needs) returns-2 returns-3)

@@ -10,23 +10,10 @@ use Rattle.desk.proofs.Exactly.{sides-fit}
 use borrow.Author.Needs.{needs}
 use Rattle.desk.proofs.refusal.job_refused.Statement.{statement}
 use Rattle.desk.proofs.refusal.job_refused.Tie as tie
-use Rattle.desk.proofs.refusal.job_refused.Reads as reads
-use Rattle.desk.proofs.refusal.job_refused.Lts as lts
-use Rattle.desk.proofs.refusal.wide.Reads as wide-reads
-use Rattle.job.proofs.Job.in_range.Reads as in-range-reads
-
-in-range-requires : tie.Need-in-range-requires
-in-range-requires c κs = search needs
 
 returns : tie.Need-returns
 unfolding jobRefused
 returns c = first-refuses _ (unless-no 1 (c .before .in-range .ensures) (c .if1 .taken)) (λ e. omega arith)
-
-wide-requires : tie.Need-wide-requires
-wide-requires c κs = search needs
-
-wide-requires-2 : tie.Need-wide-requires-2
-wide-requires-2 c κs = search needs
 
 mul-if2 : tie.Need-mul-if2
 mul-if2 c = omega (arith, sides-fit _ (c .before .before .before .in-range .ensures) (c .before .before .if1 .left) (c .before .wide .ensures) (c .wide2 .ensures))
@@ -40,6 +27,4 @@ unfolding jobRefused
 returns-3 c = first-passes (unless-yes 1 (c .before .before .before .before .in-range .ensures) (c .before .before .before .if1 .left)) refl (if-enough (length (c .before .before .before .before .before .before .args .t .now)) (area (c .before .before .before .before .before .before .args .job)) 2 (omega (arith, ap₂ _*_ (c .before .before .wide .ensures) (c .before .wide2 .ensures))))
 
 pub job-refused-spec : {M : Type 1} → statement M
-job-refused-spec =
-    tie.close
-    (tie.spec in-range-requires returns wide-requires wide-requires-2 mul-if2 returns-2 returns-3)
+job-refused-spec = tie.close (tie.spec (λ c κs. search needs) returns (λ c κs. search needs) (λ c κs. search needs) mul-if2 returns-2 returns-3)

@@ -4,8 +4,6 @@ use mathlib.Core.Path.{refl}
 use Rattle.laws.proofs.Tests.{le-no, le-yes}
 use Rattle.desk.proofs.refusal.one_to.Statement.{statement}
 use Rattle.desk.proofs.refusal.one_to.Tie as tie
-use Rattle.desk.proofs.refusal.one_to.Reads as reads
-use Rattle.desk.proofs.refusal.one_to.Lts as lts
 
 returns : tie.Need-returns
 returns c = le-no (leb (c .before .args .n) (c .before .args .most)) (c .if1 .taken)

@@ -9,12 +9,6 @@ use Rattle.desk.proofs.Exactly.{open-fits}
 use borrow.Author.Needs.{needs}
 use Rattle.desk.proofs.refusal.open_refused.Statement.{statement}
 use Rattle.desk.proofs.refusal.open_refused.Tie as tie
-use Rattle.desk.proofs.refusal.open_refused.Reads as reads
-use Rattle.desk.proofs.refusal.open_refused.Lts as lts
-use Rattle.desk.proofs.refusal.inside.Reads as inside-reads
-
-inside-requires : tie.Need-inside-requires
-inside-requires c κs = search needs
 
 returns : tie.Need-returns
 unfolding openRefused
@@ -32,4 +26,4 @@ unfolding openRefused
 returns-3 c = first-passes (unless-yes 1 (c .before .before .inside .ensures) (c .before .if1 .left)) refl (if-enough (length (c .before .before .before .before .args .t .now)) (c .before .before .before .before .args .a * c .before .before .before .before .args .b) 2 (omega arith))
 
 pub open-refused-spec : {M : Type 1} → statement M
-open-refused-spec = tie.close (tie.spec inside-requires returns mul-if2 returns-2 returns-3)
+open-refused-spec = tie.close (tie.spec (λ c κs. search needs) returns mul-if2 returns-2 returns-3)

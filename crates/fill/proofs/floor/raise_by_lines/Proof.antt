@@ -9,9 +9,6 @@ use Rattle.fill.specs.Inner.{Columns}
 use Rattle.fill.proofs.Floors.{lined, lined-none, lined-marked, lined-unmarked, lined-end}
 use Rattle.fill.proofs.floor.raise_by_lines.Statement.{statement}
 use Rattle.fill.proofs.floor.raise_by_lines.Tie as tie
-use Rattle.fill.proofs.floor.raise_by_lines.Reads as reads
-use Rattle.fill.proofs.floor.raise_by_lines.Lts as lts
-use Rattle.fill.proofs.floor.raise_by_line.Reads as raise-by-line-reads
 
 abbrev Inv-loop : tie.InvT-loop
 Inv-loop floor₀ t a from x w up half d₀ floor d =
@@ -23,50 +20,21 @@ abbrev μ-loop : tie.MeasureT-loop
 loop-holds : tie.Need-loop-holds Inv-loop μ-loop
 loop-holds c = (omega arith, refl, lined-none _ _ _ _ _ _)
 
-add-d : tie.Need-add-d Inv-loop μ-loop
-add-d c = omega arith
-
-element-copy-out-if1 : tie.Need-element-copy-out-if1 Inv-loop μ-loop
-element-copy-out-if1 c = omega arith
-
 raise-by-line-requires : tie.Need-raise-by-line-requires Inv-loop μ-loop
 raise-by-line-requires c κs = (c .before .before .before .before .before .before .before .pre .0, omega arith)
-
-loop-less : tie.Need-loop-less Inv-loop μ-loop
-loop-less c = omega arith
 
 loop-again : tie.Need-loop-again Inv-loop μ-loop
 loop-again c =
     let inv = c .before .before .before .before .before .before .before .loop .inv in
     (omega arith, omega arith, lined-marked _ _ _ _ _ _ _ (inv .2) refl (c .before .before .before .before .if1 .taken) (c .before .before .raise-by-line .ensures))
 
-loop-less-2 : tie.Need-loop-less-2 Inv-loop μ-loop
-loop-less-2 c = omega arith
-
 loop-again-2 : tie.Need-loop-again-2 Inv-loop μ-loop
 loop-again-2 c =
     let inv = c .before .before .before .loop .inv in
     (omega arith, inv .1, lined-unmarked _ _ _ _ _ _ _ (inv .2) refl (c .if1 .left))
 
-same-length : tie.Need-same-length Inv-loop μ-loop
-same-length c = omega arith
-
 returns : tie.Need-returns Inv-loop μ-loop
 returns c = lined-end _ _ _ _ _ _ _ (c .before .loop .inv .2) (omega arith)
 
 pub raise-by-lines-spec : {M : Type 1} → statement M
-raise-by-lines-spec =
-    tie.close
-    (tie.spec
-    Inv-loop
-    μ-loop
-    loop-holds
-    add-d
-    element-copy-out-if1
-    raise-by-line-requires
-    loop-less
-    loop-again
-    loop-less-2
-    loop-again-2
-    same-length
-    returns)
+raise-by-lines-spec = tie.close (tie.spec Inv-loop μ-loop loop-holds (λ c. omega arith) (λ c. omega arith) raise-by-line-requires (λ c. omega arith) loop-again (λ c. omega arith) loop-again-2 (λ c. omega arith) returns)

@@ -6,9 +6,6 @@ use lib.ListN.{length, length-set}
 use Rattle.fill.proofs.Floors.{RaisedTo, raised-none, raised-more, raised-end}
 use Rattle.fill.proofs.floor.raise_to.Statement.{statement}
 use Rattle.fill.proofs.floor.raise_to.Tie as tie
-use Rattle.fill.proofs.floor.raise_to.Reads as reads
-use Rattle.fill.proofs.floor.raise_to.Lts as lts
-use Rattle.fill.proofs.value.larger.Reads as larger-reads
 
 abbrev Inv-loop : tie.InvT-loop
 Inv-loop floor₀ from x value u₀ floor u = (from ≤ u) × (u ≤ max from (x + 1)) × (length floor ≡ length floor₀) × RaisedTo from u (λ j. value) floor₀ floor
@@ -19,52 +16,13 @@ abbrev μ-loop : tie.MeasureT-loop
 loop-holds : tie.Need-loop-holds Inv-loop μ-loop
 loop-holds c = (omega arith, omega arith, refl, raised-none _ _ _)
 
-mul-larger : tie.Need-mul-larger Inv-loop μ-loop
-mul-larger c = omega arith
-
-slice-read-larger : tie.Need-slice-read-larger Inv-loop μ-loop
-slice-read-larger c = omega arith
-
-larger-requires : tie.Need-larger-requires Inv-loop μ-loop
-larger-requires c κs = tt
-
-mul-floor : tie.Need-mul-floor Inv-loop μ-loop
-mul-floor c = omega arith
-
-slice-write-floor : tie.Need-slice-write-floor Inv-loop μ-loop
-slice-write-floor c = omega arith
-
-add-u : tie.Need-add-u Inv-loop μ-loop
-add-u c = omega arith
-
-loop-less : tie.Need-loop-less Inv-loop μ-loop
-loop-less c = omega arith
-
 loop-again : tie.Need-loop-again Inv-loop μ-loop
 loop-again c =
     let inv = c .before .before .before .loop .inv in
     (omega arith, omega arith, simp length-set (inv .2), raised-more _ _ _ _ (inv .0) (omega arith) (inv .3) refl (c .larger .ensures))
 
-same-length : tie.Need-same-length Inv-loop μ-loop
-same-length c = omega arith
-
 returns : tie.Need-returns Inv-loop μ-loop
 returns c = let inv = c .before .loop .inv in raised-end _ _ _ _ _ (inv .0) (omega arith) (inv .1) (inv .3)
 
 pub raise-to-spec : {M : Type 1} → statement M
-raise-to-spec =
-    tie.close
-    (tie.spec
-    Inv-loop
-    μ-loop
-    loop-holds
-    mul-larger
-    slice-read-larger
-    larger-requires
-    mul-floor
-    slice-write-floor
-    add-u
-    loop-less
-    loop-again
-    same-length
-    returns)
+raise-to-spec = tie.close (tie.spec Inv-loop μ-loop loop-holds (λ c. omega arith) (λ c. omega arith) (λ c κs. tt) (λ c. omega arith) (λ c. omega arith) (λ c. omega arith) (λ c. omega arith) loop-again (λ c. omega arith) returns)

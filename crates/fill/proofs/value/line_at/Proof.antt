@@ -5,24 +5,9 @@ use Rattle.fill.proofs.Steps.{line-marked, line-unmarked, line-fits}
 use borrow.Author.Needs.{needs}
 use Rattle.fill.proofs.value.line_at.Statement.{statement}
 use Rattle.fill.proofs.value.line_at.Tie as tie
-use Rattle.fill.proofs.value.line_at.Reads as reads
-use Rattle.fill.proofs.value.line_at.Lts as lts
-use Rattle.cells.proofs.cell.Reads as cell-reads
-
-cell-requires : tie.Need-cell-requires
-cell-requires c κs = search needs
-
-sub-cell : tie.Need-sub-cell
-sub-cell c = search needs
-
-cell-requires-2 : tie.Need-cell-requires-2
-cell-requires-2 c κs = search needs
 
 add-both : tie.Need-add-both
 add-both c = record { fits = line-fits _ _ _ _ _ (c .before .before .before .pre .0) (omega arith) (omega arith) (c .before .cell .ensures) (c .cell2 .ensures) }
-
-element-copy-out-if1 : tie.Need-element-copy-out-if1
-element-copy-out-if1 c = search needs
 
 returns : tie.Need-returns
 returns c = line-marked _ _ _ refl (c .if1 .taken) (c .before .before .before .cell .ensures) (c .before .before .cell2 .ensures)
@@ -31,13 +16,4 @@ returns-2 : tie.Need-returns-2
 returns-2 c = line-unmarked _ _ _ refl (c .if1 .left)
 
 pub line-at-spec : {M : Type 1} → statement M
-line-at-spec =
-    tie.close
-    (tie.spec
-    cell-requires
-    sub-cell
-    cell-requires-2
-    add-both
-    element-copy-out-if1
-    returns
-    returns-2)
+line-at-spec = tie.close (tie.spec (λ c κs. search needs) (λ c. search needs) (λ c κs. search needs) add-both (λ c. search needs) returns returns-2)

@@ -8,10 +8,6 @@ use Rattle.cells.specs.Cells.{cellOf}
 use Rattle.fill.proofs.Steps.{linesUpTo, lines-none, lines-more, lines-end}
 use Rattle.fill.proofs.value.line_value.Statement.{statement}
 use Rattle.fill.proofs.value.line_value.Tie as tie
-use Rattle.fill.proofs.value.line_value.Reads as reads
-use Rattle.fill.proofs.value.line_value.Lts as lts
-use Rattle.fill.proofs.value.larger.Reads as larger-reads
-use Rattle.fill.proofs.value.line_at.Reads as line-at-reads
 
 abbrev Inv-loop : tie.InvT-loop
 Inv-loop t a w x marks half best₀ c₀ best c = (c ≤ half) × (best ≡ linesUpTo (λ k. getD marks k false) (λ k. cellOf a t k w) x c)
@@ -22,17 +18,8 @@ abbrev μ-loop : tie.MeasureT-loop
 loop-holds : tie.Need-loop-holds Inv-loop μ-loop
 loop-holds c = (omega arith, lines-none _ _ _)
 
-add-c : tie.Need-add-c Inv-loop μ-loop
-add-c c = omega arith
-
 line-at-requires : tie.Need-line-at-requires Inv-loop μ-loop
 line-at-requires c κs = (c .before .before .before .pre, omega arith)
-
-larger-requires : tie.Need-larger-requires Inv-loop μ-loop
-larger-requires c κs = omega arith
-
-loop-less : tie.Need-loop-less Inv-loop μ-loop
-loop-less c = omega arith
 
 loop-again : tie.Need-loop-again Inv-loop μ-loop
 loop-again c =
@@ -43,15 +30,4 @@ returns : tie.Need-returns Inv-loop μ-loop
 returns c = lines-end _ _ _ (c .before .loop .inv .1) (omega arith)
 
 pub line-value-spec : {M : Type 1} → statement M
-line-value-spec =
-    tie.close
-    (tie.spec
-    Inv-loop
-    μ-loop
-    loop-holds
-    add-c
-    line-at-requires
-    larger-requires
-    loop-less
-    loop-again
-    returns)
+line-value-spec = tie.close (tie.spec Inv-loop μ-loop loop-holds (λ c. omega arith) line-at-requires (λ c κs. omega arith) (λ c. omega arith) loop-again returns)

@@ -8,17 +8,11 @@ use Rattle.job.specs.Inner.{within, piecesInRange, jobInRange}
 use Rattle.job.proofs.Job.in_range.Statement.{statement}
 use Rattle.job.proofs.Job.in_range.Tie as tie
 
-in-limits-requires : tie.Need-in-limits-requires
-in-limits-requires c κs = search needs
-
 returns : tie.Need-returns
 unfolding jobInRange
 returns c =
     let job = c .before .before .args .self in
     and-no (within (job .height) sideMax && (leb (job .count) piecesMax && piecesInRange job)) (c .before .in-limits .ensures) (c .if1 .taken)
-
-in-limits-requires-2 : tie.Need-in-limits-requires-2
-in-limits-requires-2 c κs = search needs
 
 returns-2 : tie.Need-returns-2
 unfolding jobInRange
@@ -37,9 +31,6 @@ returns-3 c =
     (and-yes (past2 .before .in-limits2 .ensures) (past2 .if2 .left)
     (le-no (piecesInRange (past1 .before .before .args .self)) (c .if3 .taken)))
 
-pieces-in-range-requires : tie.Need-pieces-in-range-requires
-pieces-in-range-requires c κs = search needs
-
 returns-4 : tie.Need-returns-4
 unfolding jobInRange
 returns-4 c =
@@ -51,13 +42,4 @@ returns-4 c =
     (le-yes (past3 .if3 .left) (c .pieces-in-range .ensures)))
 
 pub in-range-spec : {M : Type 1} → statement M
-in-range-spec =
-    tie.close
-    (tie.spec
-    in-limits-requires
-    returns
-    in-limits-requires-2
-    returns-2
-    returns-3
-    pieces-in-range-requires
-    returns-4)
+in-range-spec = tie.close (tie.spec (λ c κs. search needs) returns (λ c κs. search needs) returns-2 returns-3 (λ c κs. search needs) returns-4)

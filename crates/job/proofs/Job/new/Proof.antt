@@ -10,11 +10,8 @@ use Rattle.job.proofs.Pieces.{is-jobOf}
 use Rattle.job.proofs.Job.new.Statement.{statement}
 use Rattle.job.proofs.Job.new.Tie as tie
 
-zeros-requires : tie.Need-zeros-requires
-zeros-requires c κs = search needs
-
 returns : tie.Need-returns
 returns c = is-jobOf _ _ 0 [] _ (λ k. noRecord) refl (ap (replicate 64) (c .zeros .ensures) ∙ filled-none _ noRecord 64) (λ k h. absurd (omega arith))
 
 pub new-spec : {M : Type 1} → statement M
-new-spec = tie.close (tie.spec zeros-requires returns)
+new-spec = tie.close (tie.spec (λ c κs. search needs) returns)

@@ -19,32 +19,14 @@ Inv-loop pieces count k₀ k = (k ≤ count) × (allBelow (λ i. pieceInRange (g
 abbrev μ-loop : tie.MeasureT-loop
 μ-loop pieces count k₀ k = count - k
 
-cast-count : tie.Need-cast-count Inv-loop μ-loop
-cast-count c = omega arith
-
 loop-holds : tie.Need-loop-holds Inv-loop μ-loop
 loop-holds c = (omega arith, allBelow-none _)
-
-mul-in-range : tie.Need-mul-in-range Inv-loop μ-loop
-mul-in-range c = omega arith
-
-array-copy-out-in-range : tie.Need-array-copy-out-in-range Inv-loop μ-loop
-array-copy-out-in-range c = omega arith
-
-in-range-requires : tie.Need-in-range-requires Inv-loop μ-loop
-in-range-requires c κs = search needs
 
 returns : tie.Need-returns Inv-loop μ-loop
 unfolding piecesInRange
 returns c =
     let head = c .before .before .before .before in
     all-no _ _ (head .loop .k) (omega arith) (c .before .in-range .ensures) (c .if1 .taken)
-
-add-k : tie.Need-add-k Inv-loop μ-loop
-add-k c = omega arith
-
-loop-less : tie.Need-loop-less Inv-loop μ-loop
-loop-less c = omega arith
 
 loop-again : tie.Need-loop-again Inv-loop μ-loop
 loop-again c =
@@ -59,18 +41,4 @@ returns-2 c =
     sym (ap (allBelow _) (sym end) ∙ head .loop .inv .1)
 
 pub pieces-in-range-spec : {M : Type 1} → statement M
-pieces-in-range-spec =
-    tie.close
-    (tie.spec
-    Inv-loop
-    μ-loop
-    cast-count
-    loop-holds
-    mul-in-range
-    array-copy-out-in-range
-    in-range-requires
-    returns
-    add-k
-    loop-less
-    loop-again
-    returns-2)
+pieces-in-range-spec = tie.close (tie.spec Inv-loop μ-loop (λ c. omega arith) loop-holds (λ c. omega arith) (λ c. omega arith) (λ c κs. search needs) returns (λ c. omega arith) (λ c. omega arith) loop-again returns-2)

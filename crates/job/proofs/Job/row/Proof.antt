@@ -19,32 +19,8 @@ Inv-loop measure pieces count row₀ k₀ row k = (k ≤ count) × (row ≡ fill
 abbrev μ-loop : tie.MeasureT-loop
 μ-loop measure pieces count row₀ k₀ row k = count - k
 
-cast-count : tie.Need-cast-count Inv-loop μ-loop
-cast-count c = omega arith
-
 loop-holds : tie.Need-loop-holds Inv-loop μ-loop
 loop-holds c = (omega arith, filled-none _ 0 64)
-
-mul-of : tie.Need-mul-of Inv-loop μ-loop
-mul-of c = omega arith
-
-array-copy-out-of : tie.Need-array-copy-out-of Inv-loop μ-loop
-array-copy-out-of c = omega arith
-
-of-requires : tie.Need-of-requires Inv-loop μ-loop
-of-requires c κs = search needs
-
-mul-row : tie.Need-mul-row Inv-loop μ-loop
-mul-row c = omega arith
-
-array-write-row : tie.Need-array-write-row Inv-loop μ-loop
-array-write-row c = omega arith
-
-add-k : tie.Need-add-k Inv-loop μ-loop
-add-k c = omega arith
-
-loop-less : tie.Need-loop-less Inv-loop μ-loop
-loop-less c = omega arith
 
 loop-again : tie.Need-loop-again Inv-loop μ-loop
 loop-again c =
@@ -58,19 +34,4 @@ returns c =
     row-done (start .args .measure) (start .args .self) end (c .before .loop .inv .1)
 
 pub row-spec : {M : Type 1} → statement M
-row-spec =
-    tie.close
-    (tie.spec
-    Inv-loop
-    μ-loop
-    cast-count
-    loop-holds
-    mul-of
-    array-copy-out-of
-    of-requires
-    mul-row
-    array-write-row
-    add-k
-    loop-less
-    loop-again
-    returns)
+row-spec = tie.close (tie.spec Inv-loop μ-loop (λ c. omega arith) loop-holds (λ c. omega arith) (λ c. omega arith) (λ c κs. search needs) (λ c. omega arith) (λ c. omega arith) (λ c. omega arith) (λ c. omega arith) loop-again returns)

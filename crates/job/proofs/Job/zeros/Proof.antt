@@ -4,12 +4,9 @@ use Rattle.job.specs.Job.{zeroJob}
 use Rattle.job.proofs.Job.zeros.Statement.{statement}
 use Rattle.job.proofs.Job.zeros.Tie as tie
 
-new-requires : tie.Need-new-requires
-new-requires c κs = search needs
-
 returns : tie.Need-returns
 unfolding zeroJob
 returns c = c .new .ensures
 
 pub zeros-spec : {M : Type 1} → statement M
-zeros-spec = tie.close (tie.spec new-requires returns)
+zeros-spec = tie.close (tie.spec (λ c κs. search needs) returns)

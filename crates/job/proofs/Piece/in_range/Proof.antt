@@ -7,17 +7,11 @@ use Rattle.job.specs.Inner.{within, pieceInRange}
 use Rattle.job.proofs.Piece.in_range.Statement.{statement}
 use Rattle.job.proofs.Piece.in_range.Tie as tie
 
-in-limits-requires : tie.Need-in-limits-requires
-in-limits-requires c κs = search needs
-
 returns : tie.Need-returns
 unfolding pieceInRange
 returns c =
     let r = c .before .before .args .self in
     and-no (within (r .height) sizeMax && within (r .value) valueMax) (c .before .in-limits .ensures) (c .if1 .taken)
-
-in-limits-requires-2 : tie.Need-in-limits-requires-2
-in-limits-requires-2 c κs = search needs
 
 returns-2 : tie.Need-returns-2
 unfolding pieceInRange
@@ -25,9 +19,6 @@ returns-2 c =
     let past = c .before .before in
     and-yes (past .before .in-limits .ensures) (past .if1 .left)
     (and-no (within (past .before .before .args .self .value) valueMax) (c .before .in-limits2 .ensures) (c .if2 .taken))
-
-in-limits-requires-3 : tie.Need-in-limits-requires-3
-in-limits-requires-3 c κs = search needs
 
 returns-3 : tie.Need-returns-3
 unfolding pieceInRange
@@ -38,12 +29,4 @@ returns-3 c =
     (and-yes (past2 .before .in-limits2 .ensures) (past2 .if2 .left) (c .in-limits3 .ensures))
 
 pub in-range-spec : {M : Type 1} → statement M
-in-range-spec =
-    tie.close
-    (tie.spec
-    in-limits-requires
-    returns
-    in-limits-requires-2
-    returns-2
-    in-limits-requires-3
-    returns-3)
+in-range-spec = tie.close (tie.spec (λ c κs. search needs) returns (λ c κs. search needs) returns-2 (λ c κs. search needs) returns-3)

@@ -19,21 +19,12 @@ returns c =
     let s = c .before .before .args .s .now in
     le-no (leb (countIn s) piecesMax && eqb (length s) (blockLength (countIn s))) (c .if1 .taken)
 
-count-in-requires : tie.Need-count-in-requires
-count-in-requires c κs = search needs
-
 returns-2 : tie.Need-returns-2
 unfolding blockShape
 returns-2 c =
     let s = c .before .before .before .before .args .s .now in
     let above : piecesMax < countIn s = omega (arith, c .before .count-in .ensures) in
     le-yes (c .before .before .if1 .left) (le-no (eqb (length s) (blockLength (countIn s))) above)
-
-wide-requires : tie.Need-wide-requires
-wide-requires c κs = search needs
-
-block-length-requires : tie.Need-block-length-requires
-block-length-requires c κs = search needs
 
 returns-3 : tie.Need-returns-3
 unfolding blockShape
@@ -45,6 +36,4 @@ returns-3 c =
     (le-yes most (ap (eqb _) (c .block-length .ensures ∙ ap blockLength (c .before .wide .ensures ∙ count))))
 
 pub block-shaped-spec : {M : Type 1} → statement M
-block-shaped-spec =
-    tie.close
-    (tie.spec returns count-in-requires returns-2 wide-requires block-length-requires returns-3)
+block-shaped-spec = tie.close (tie.spec returns (λ c κs. search needs) returns-2 (λ c κs. search needs) (λ c κs. search needs) returns-3)

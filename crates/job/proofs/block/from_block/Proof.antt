@@ -6,12 +6,6 @@ use Rattle.job.proofs.Blocks.{shape-says, from-block-no, from-block-yes
 use Rattle.job.proofs.block.from_block.Statement.{statement}
 use Rattle.job.proofs.block.from_block.Tie as tie
 
-block-shaped-requires : tie.Need-block-shaped-requires
-block-shaped-requires c κs = search needs
-
-zeros-requires : tie.Need-zeros-requires
-zeros-requires c κs = search needs
-
 returns : tie.Need-returns
 returns c = from-block-no _ (c .before .before .block-shaped .ensures) (c .before .if1 .taken) (c .zeros .ensures)
 
@@ -22,5 +16,4 @@ returns-2 : tie.Need-returns-2
 returns-2 c = from-block-yes _ (c .before .before .block-shaped .ensures) (c .before .if1 .left) (c .job-in .ensures)
 
 pub from-block-spec : {M : Type 1} → statement M
-from-block-spec =
-    tie.close (tie.spec block-shaped-requires zeros-requires returns job-in-requires returns-2)
+from-block-spec = tie.close (tie.spec (λ c κs. search needs) (λ c κs. search needs) returns job-in-requires returns-2)

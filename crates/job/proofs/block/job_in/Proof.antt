@@ -7,21 +7,6 @@ use Rattle.job.proofs.Blocks.{job-in-done}
 use Rattle.job.proofs.block.job_in.Statement.{statement}
 use Rattle.job.proofs.block.job_in.Tie as tie
 
-count-in-requires : tie.Need-count-in-requires
-count-in-requires c κs = search needs
-
-wide-requires : tie.Need-wide-requires
-wide-requires c κs = search needs
-
-records-in-requires : tie.Need-records-in-requires
-records-in-requires c κs = search needs
-
-number2-requires : tie.Need-number2-requires
-number2-requires c κs = search needs
-
-number2-requires-2 : tie.Need-number2-requires-2
-number2-requires-2 c κs = search needs
-
 returns : tie.Need-returns
 returns c =
     let counted = c .before .before .before in
@@ -29,12 +14,4 @@ returns c =
     (filled-end _ noRecord piecesMax (c .before .before .records-in .ensures) (counted .wide .ensures))
 
 pub job-in-spec : {M : Type 1} → statement M
-job-in-spec =
-    tie.close
-    (tie.spec
-    count-in-requires
-    wide-requires
-    records-in-requires
-    number2-requires
-    number2-requires-2
-    returns)
+job-in-spec = tie.close (tie.spec (λ c κs. search needs) (λ c κs. search needs) (λ c κs. search needs) (λ c κs. search needs) (λ c κs. search needs) returns)

@@ -8,15 +8,6 @@ use Rattle.job.proofs.Blocks.{put-block-done}
 use Rattle.job.proofs.block.put_block.Statement.{statement}
 use Rattle.job.proofs.block.put_block.Tie as tie
 
-put-head-requires : tie.Need-put-head-requires
-put-head-requires c κs = search needs
-
-put-pieces-requires : tie.Need-put-pieces-requires
-put-pieces-requires c κs = search needs
-
-same-length : tie.Need-same-length
-same-length c = search needs
-
 returns : tie.Need-returns
 returns c =
     let second = c .before .before in
@@ -25,4 +16,4 @@ returns c =
     put-block-done _ _ _ (piecesOf job) (omega arith) (sym (pieces-length job)) (first .put-head .ensures) (second .put-pieces .ensures)
 
 pub put-block-spec : {M : Type 1} → statement M
-put-block-spec = tie.close (tie.spec put-head-requires put-pieces-requires same-length returns)
+put-block-spec = tie.close (tie.spec (λ c κs. search needs) (λ c κs. search needs) (λ c. search needs) returns)

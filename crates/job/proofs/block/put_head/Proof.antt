@@ -6,18 +6,6 @@ use Rattle.job.proofs.Blocks.{put-three}
 use Rattle.job.proofs.block.put_head.Statement.{statement}
 use Rattle.job.proofs.block.put_head.Tie as tie
 
-put2-requires : tie.Need-put2-requires
-put2-requires c κs = search needs
-
-put2-requires-2 : tie.Need-put2-requires-2
-put2-requires-2 c κs = search needs
-
-put2-requires-3 : tie.Need-put2-requires-3
-put2-requires-3 c κs = search needs
-
-same-length : tie.Need-same-length
-same-length c = search needs
-
 returns : tie.Need-returns
 unfolding bytesOfHead
 returns c =
@@ -27,5 +15,4 @@ returns c =
     put-three _ 0 _ _ _ (omega arith) (first .put2 .ensures) (second .put22 .ensures) (third .put23 .ensures)
 
 pub put-head-spec : {M : Type 1} → statement M
-put-head-spec =
-    tie.close (tie.spec put2-requires put2-requires-2 put2-requires-3 same-length returns)
+put-head-spec = tie.close (tie.spec (λ c κs. search needs) (λ c κs. search needs) (λ c κs. search needs) (λ c. search needs) returns)

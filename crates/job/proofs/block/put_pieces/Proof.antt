@@ -18,29 +18,11 @@ Inv-loop o₀ pieces count k₀ o k = (k ≤ count) × (length o ≡ length o₀
 abbrev μ-loop : tie.MeasureT-loop
 μ-loop o₀ pieces count k₀ o k = count - k
 
-wide-requires : tie.Need-wide-requires Inv-loop μ-loop
-wide-requires c κs = search needs
-
 loop-holds : tie.Need-loop-holds Inv-loop μ-loop
 loop-holds c = (omega arith, refl, put-pieces-none _ _)
 
-block-length-requires : tie.Need-block-length-requires Inv-loop μ-loop
-block-length-requires c κs = search needs
-
-mul-put-piece : tie.Need-mul-put-piece Inv-loop μ-loop
-mul-put-piece c = omega arith
-
-array-copy-out-put-piece : tie.Need-array-copy-out-put-piece Inv-loop μ-loop
-array-copy-out-put-piece c = omega arith
-
 put-piece-requires : tie.Need-put-piece-requires Inv-loop μ-loop
 put-piece-requires c κs = omega (arith, c .before .block-length .ensures)
-
-add-k : tie.Need-add-k Inv-loop μ-loop
-add-k c = omega arith
-
-loop-less : tie.Need-loop-less Inv-loop μ-loop
-loop-less c = omega arith
 
 loop-again : tie.Need-loop-again Inv-loop μ-loop
 loop-again c =
@@ -62,19 +44,4 @@ returns c =
     put-pieces-end _ (c .before .before .before .before .before .args .job) (c .before .loop .inv .2) end
 
 pub put-pieces-spec : {M : Type 1} → statement M
-put-pieces-spec =
-    tie.close
-    (tie.spec
-    Inv-loop
-    μ-loop
-    wide-requires
-    loop-holds
-    block-length-requires
-    mul-put-piece
-    array-copy-out-put-piece
-    put-piece-requires
-    add-k
-    loop-less
-    loop-again
-    same-length
-    returns)
+put-pieces-spec = tie.close (tie.spec Inv-loop μ-loop (λ c κs. search needs) loop-holds (λ c κs. search needs) (λ c. omega arith) (λ c. omega arith) put-piece-requires (λ c. omega arith) (λ c. omega arith) loop-again same-length returns)

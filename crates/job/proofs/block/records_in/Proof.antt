@@ -19,29 +19,8 @@ Inv-loop s count records₀ k₀ records k = (k ≤ count) × (records ≡ fille
 abbrev μ-loop : tie.MeasureT-loop
 μ-loop s count records₀ k₀ records k = count - k
 
-zeros-requires : tie.Need-zeros-requires Inv-loop μ-loop
-zeros-requires c κs = search needs
-
 loop-holds : tie.Need-loop-holds Inv-loop μ-loop
 loop-holds c = (omega arith, ap (replicate 64) (c .zeros .ensures) ∙ filled-none _ noRecord 64)
-
-block-length-requires : tie.Need-block-length-requires Inv-loop μ-loop
-block-length-requires c κs = search needs
-
-piece-from-requires : tie.Need-piece-from-requires Inv-loop μ-loop
-piece-from-requires c κs = search needs
-
-mul-records : tie.Need-mul-records Inv-loop μ-loop
-mul-records c = omega arith
-
-array-set-from-records : tie.Need-array-set-from-records Inv-loop μ-loop
-array-set-from-records c = omega arith
-
-add-k : tie.Need-add-k Inv-loop μ-loop
-add-k c = omega arith
-
-loop-less : tie.Need-loop-less Inv-loop μ-loop
-loop-less c = omega arith
 
 loop-again : tie.Need-loop-again Inv-loop μ-loop
 loop-again c =
@@ -54,18 +33,4 @@ returns c =
     filled-end _ noRecord piecesMax (c .before .loop .inv .1) end
 
 pub records-in-spec : {M : Type 1} → statement M
-records-in-spec =
-    tie.close
-    (tie.spec
-    Inv-loop
-    μ-loop
-    zeros-requires
-    loop-holds
-    block-length-requires
-    piece-from-requires
-    mul-records
-    array-set-from-records
-    add-k
-    loop-less
-    loop-again
-    returns)
+records-in-spec = tie.close (tie.spec Inv-loop μ-loop (λ c κs. search needs) loop-holds (λ c κs. search needs) (λ c κs. search needs) (λ c. omega arith) (λ c. omega arith) (λ c. omega arith) (λ c. omega arith) loop-again returns)

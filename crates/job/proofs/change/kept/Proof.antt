@@ -19,14 +19,8 @@ Inv-loop gap count records kept₀ k₀ kept k = (k ≤ count) × (kept ≡ fill
 abbrev μ-loop : tie.MeasureT-loop
 μ-loop gap count records kept₀ k₀ kept k = count - k
 
-zeros-requires : tie.Need-zeros-requires Inv-loop μ-loop
-zeros-requires c κs = search needs
-
 loop-holds : tie.Need-loop-holds Inv-loop μ-loop
 loop-holds c = (omega arith, ap (replicate 64) (c .zeros .ensures) ∙ filled-none _ noRecord 64)
-
-moved-from-requires : tie.Need-moved-from-requires Inv-loop μ-loop
-moved-from-requires c κs = search needs
 
 -- What is read lies in the row.
 within : (c : tie.After-moved-from Inv-loop μ-loop) → c .moved-from .result < piecesMax
@@ -40,18 +34,6 @@ mul-kept c = omega (arith, within c)
 array-copy-out-kept : tie.Need-array-copy-out-kept Inv-loop μ-loop
 array-copy-out-kept c = omega (arith, within c)
 
-mul-kept-2 : tie.Need-mul-kept-2 Inv-loop μ-loop
-mul-kept-2 c = omega arith
-
-array-set-from-kept : tie.Need-array-set-from-kept Inv-loop μ-loop
-array-set-from-kept c = omega arith
-
-add-k : tie.Need-add-k Inv-loop μ-loop
-add-k c = omega arith
-
-loop-less : tie.Need-loop-less Inv-loop μ-loop
-loop-less c = omega arith
-
 loop-again : tie.Need-loop-again Inv-loop μ-loop
 loop-again c =
     let head = c .before .before .before in
@@ -64,19 +46,4 @@ returns c =
     filled-end _ noRecord piecesMax (c .before .loop .inv .1) end
 
 pub kept-spec : {M : Type 1} → statement M
-kept-spec =
-    tie.close
-    (tie.spec
-    Inv-loop
-    μ-loop
-    zeros-requires
-    loop-holds
-    moved-from-requires
-    mul-kept
-    array-copy-out-kept
-    mul-kept-2
-    array-set-from-kept
-    add-k
-    loop-less
-    loop-again
-    returns)
+kept-spec = tie.close (tie.spec Inv-loop μ-loop (λ c κs. search needs) loop-holds (λ c κs. search needs) mul-kept array-copy-out-kept (λ c. omega arith) (λ c. omega arith) (λ c. omega arith) (λ c. omega arith) loop-again returns)

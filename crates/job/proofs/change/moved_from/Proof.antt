@@ -8,11 +8,8 @@ use Rattle.job.proofs.change.moved_from.Tie as tie
 returns : tie.Need-returns
 returns c = sym (moved-low (c .before .args .gap) (c .before .args .k) (c .if1 .taken))
 
-add-result : tie.Need-add-result
-add-result c = search needs
-
 returns-2 : tie.Need-returns-2
 returns-2 c = sym (moved-high (c .before .args .gap) (c .before .args .k) (c .if1 .left))
 
 pub moved-from-spec : {M : Type 1} → statement M
-moved-from-spec = tie.close (tie.spec returns add-result returns-2)
+moved-from-spec = tie.close (tie.spec returns (λ c. search needs) returns-2)

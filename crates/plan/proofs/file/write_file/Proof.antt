@@ -5,18 +5,6 @@ use borrow.Author.Needs.{needs}
 use Rattle.plan.proofs.file.write_file.Statement.{statement}
 use Rattle.plan.proofs.file.write_file.Tie as tie
 
-wide-requires : tie.Need-wide-requires
-wide-requires c κs = search needs
-
-block-length-requires : tie.Need-block-length-requires
-block-length-requires c κs = search needs
-
-cast-put-block : tie.Need-cast-put-block
-cast-put-block c = search needs
-
-cast-put-block-2 : tie.Need-cast-put-block-2
-cast-put-block-2 c = search needs
-
 put-block-requires : tie.Need-put-block-requires
 put-block-requires c κs = block-fits _ _ _ _ _ (c .before .before .before .before .before .pre .0)
 
@@ -26,9 +14,6 @@ write-for-requires c κs =
     let start = block .before .before .before .before .before .before in
     let ready = start .pre .0 in
     ((ready .readable .usable, ready .readable .inside), nodes-fit _ _ _ _ _ ready (block .put-block .ensures) (block .before .before .before .wide .ensures) (block .before .before .block-length .ensures))
-
-sub-put-pointers : tie.Need-sub-put-pointers
-sub-put-pointers c = search needs
 
 put-pointers-requires : tie.Need-put-pointers-requires
 put-pointers-requires c κs =
@@ -52,9 +37,6 @@ put-sum-requires c κs =
     let start = block .before .before .before .before .before .before in
     sum-fits _ _ _ _ _ (start .pre .0) (block .put-block .ensures) (block .before .before .before .wide .ensures) (block .before .before .block-length .ensures) (nodes .write-for .ensures) (pointers .put-pointers .ensures) (start .pre .1)
 
-same-length : tie.Need-same-length
-same-length c = search needs
-
 returns : tie.Need-returns
 returns c =
     let pointers = c .before .before .before .before .before .before in
@@ -64,18 +46,4 @@ returns c =
     filed _ _ _ _ _ (start .pre .0) (block .put-block .ensures) (block .before .before .before .wide .ensures) (block .before .before .block-length .ensures) (nodes .write-for .ensures) (pointers .put-pointers .ensures) (start .pre .1) (c .before .before .put-sum .ensures)
 
 pub write-file-spec : {M : Type 1} → statement M
-write-file-spec =
-    tie.close
-    (tie.spec
-    wide-requires
-    block-length-requires
-    cast-put-block
-    cast-put-block-2
-    put-block-requires
-    write-for-requires
-    sub-put-pointers
-    put-pointers-requires
-    add-put-sum
-    put-sum-requires
-    same-length
-    returns)
+write-file-spec = tie.close (tie.spec (λ c κs. search needs) (λ c κs. search needs) (λ c. search needs) (λ c. search needs) put-block-requires write-for-requires (λ c. search needs) put-pointers-requires add-put-sum put-sum-requires (λ c. search needs) returns)

@@ -9,22 +9,13 @@ use borrow.Author.Needs.{needs}
 use Rattle.plan.proofs.refusal.box_refused.Statement.{statement}
 use Rattle.plan.proofs.refusal.box_refused.Tie as tie
 
-job-refused-requires : tie.Need-job-refused-requires
-job-refused-requires c κs = search needs
-
 returns : tie.Need-returns
 unfolding boxRefused
 returns c = first-refuses _ (c .before .job-refused .ensures) (c .if1 .taken)
 
-inside-requires : tie.Need-inside-requires
-inside-requires c κs = search needs
-
 returns-2 : tie.Need-returns-2
 unfolding boxRefused
 returns-2 c = first-passes (c .before .before .before .job-refused .ensures) (c .before .before .if1 .left) (first-refuses _ (unless-no 3 (c .before .inside .ensures) (c .if2 .taken)) (λ e. omega arith))
-
-wide-requires : tie.Need-wide-requires
-wide-requires c κs = search needs
 
 has-empty-requires : tie.Need-has-empty-requires
 has-empty-requires c κs = box-holds _ _ _ _ (c .before .before .before .before .job-refused .ensures) (c .before .before .before .if1 .left) (c .before .before .inside .ensures) (c .before .if2 .left) (c .wide .ensures)
@@ -38,9 +29,6 @@ returns-3 c =
     first-passes (first .job-refused .ensures) (inside .before .if1 .left)
     (first-passes (unless-yes 3 (inside .inside .ensures) (c .before .before .before .if2 .left)) refl
     (first-refuses _ (if-yes 6 (empty-test job _ _ _ (c .before .has-empty .ensures) (c .before .before .wide .ensures)) (c .if3 .taken)) (λ e. omega arith)))
-
-wide-requires-2 : tie.Need-wide-requires-2
-wide-requires-2 c κs = search needs
 
 has-exceeding-requires : tie.Need-has-exceeding-requires
 has-exceeding-requires c κs =
@@ -73,17 +61,4 @@ returns-5 c =
     (if-no 7 (box-test job _ _ _ (c .before .has-exceeding .ensures) (c .before .before .wide2 .ensures)) (c .if4 .left))))
 
 pub box-refused-spec : {M : Type 1} → statement M
-box-refused-spec =
-    tie.close
-    (tie.spec
-    job-refused-requires
-    returns
-    inside-requires
-    returns-2
-    wide-requires
-    has-empty-requires
-    returns-3
-    wide-requires-2
-    has-exceeding-requires
-    returns-4
-    returns-5)
+box-refused-spec = tie.close (tie.spec (λ c κs. search needs) returns (λ c κs. search needs) returns-2 (λ c κs. search needs) has-empty-requires returns-3 (λ c κs. search needs) has-exceeding-requires returns-4 returns-5)

@@ -6,9 +6,6 @@ use borrow.Author.Needs.{needs}
 use Rattle.plan.proofs.refusal.plan_refused.Statement.{statement}
 use Rattle.plan.proofs.refusal.plan_refused.Tie as tie
 
-box-refused-requires : tie.Need-box-refused-requires
-box-refused-requires c κs = search needs
-
 returns : tie.Need-returns
 unfolding planRefused
 returns c = first-refuses _ (c .before .box-refused .ensures) (c .if1 .taken)
@@ -21,5 +18,4 @@ unfolding planRefused
 returns-2 c = first-passes (c .before .before .box-refused .ensures) (c .before .if1 .left) (c .file-refused .ensures)
 
 pub plan-refused-spec : {M : Type 1} → statement M
-plan-refused-spec =
-    tie.close (tie.spec box-refused-requires returns file-refused-requires returns-2)
+plan-refused-spec = tie.close (tie.spec (λ c κs. search needs) returns file-refused-requires returns-2)

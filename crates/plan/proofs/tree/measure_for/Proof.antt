@@ -5,30 +5,6 @@ use borrow.Author.Needs.{needs}
 use Rattle.plan.proofs.tree.measure_for.Statement.{statement}
 use Rattle.plan.proofs.tree.measure_for.Tie as tie
 
-wide-requires : tie.Need-wide-requires
-wide-requires c κs = search needs
-
-wide-requires-2 : tie.Need-wide-requires-2
-wide-requires-2 c κs = search needs
-
-row-requires : tie.Need-row-requires
-row-requires c κs = search needs
-
-row-requires-2 : tie.Need-row-requires-2
-row-requires-2 c κs = search needs
-
-row-requires-3 : tie.Need-row-requires-3
-row-requires-3 c κs = search needs
-
-marks-requires : tie.Need-marks-requires
-marks-requires c κs = search needs
-
-wide-requires-3 : tie.Need-wide-requires-3
-wide-requires-3 c κs = search needs
-
-marks-requires-2 : tie.Need-marks-requires-2
-marks-requires-2 c κs = search needs
-
 measure-requires : tie.Need-measure-requires
 measure-requires c κs = trace-ready _ _ _ _ (c .before .before .before .before .before .before .before .before .before .before .before .before .before .before .before .before .pre) (c .before .before .before .before .before .before .before .before .before .before .before .before .before .wide2 .ensures) (c .before .before .before .before .before .before .before .before .before .before .before .before .before .before .wide .ensures)
 
@@ -41,16 +17,4 @@ returns c =
     measured-as _ _ _ _ (rows-are _ (sides .wide2 .ensures) (sides .before .wide .ensures) (high .before .wide3 .ensures) (rows .before .before .row .ensures) (rows .before .row2 .ensures) (rows .row3 .ensures) (across .marks .ensures) (high .marks2 .ensures)) (sides .before .wide .ensures) (c .measure .ensures)
 
 pub measure-for-spec : {M : Type 1} → statement M
-measure-for-spec =
-    tie.close
-    (tie.spec
-    wide-requires
-    wide-requires-2
-    row-requires
-    row-requires-2
-    row-requires-3
-    marks-requires
-    wide-requires-3
-    marks-requires-2
-    measure-requires
-    returns)
+measure-for-spec = tie.close (tie.spec (λ c κs. search needs) (λ c κs. search needs) (λ c κs. search needs) (λ c κs. search needs) (λ c κs. search needs) (λ c κs. search needs) (λ c κs. search needs) (λ c κs. search needs) measure-requires returns)

@@ -7,30 +7,6 @@ use borrow.Author.Needs.{needs}
 use Rattle.plan.proofs.tree.write_for.Statement.{statement}
 use Rattle.plan.proofs.tree.write_for.Tie as tie
 
-wide-requires : tie.Need-wide-requires
-wide-requires c κs = search needs
-
-wide-requires-2 : tie.Need-wide-requires-2
-wide-requires-2 c κs = search needs
-
-row-requires : tie.Need-row-requires
-row-requires c κs = search needs
-
-row-requires-2 : tie.Need-row-requires-2
-row-requires-2 c κs = search needs
-
-row-requires-3 : tie.Need-row-requires-3
-row-requires-3 c κs = search needs
-
-marks-requires : tie.Need-marks-requires
-marks-requires c κs = search needs
-
-wide-requires-3 : tie.Need-wide-requires-3
-wide-requires-3 c κs = search needs
-
-marks-requires-2 : tie.Need-marks-requires-2
-marks-requires-2 c κs = search needs
-
 write-requires : tie.Need-write-requires
 write-requires c κs =
     let high = c .before .before .before .before .before .before in
@@ -39,9 +15,6 @@ write-requires c κs =
     let sides = rows .before .before .before in
     let start = sides .before .before .before .before in
     (trace-ready _ _ _ _ (start .pre .0) (sides .wide2 .ensures) (sides .before .wide .ensures), room-as (sym (nodes-as _ _ _ _ (rows-are _ (sides .wide2 .ensures) (sides .before .wide .ensures) (high .before .wide3 .ensures) (rows .before .before .row .ensures) (rows .before .row2 .ensures) (rows .row3 .ensures) (across .marks .ensures) (high .marks2 .ensures)) (sides .before .wide .ensures))) (start .pre .1))
-
-same-length : tie.Need-same-length
-same-length c = search needs
 
 returns : tie.Need-returns
 returns c =
@@ -52,17 +25,4 @@ returns c =
     wrote-as (sym (nodes-as _ _ _ _ (rows-are _ (sides .wide2 .ensures) (sides .before .wide .ensures) (high .before .wide3 .ensures) (rows .before .before .row .ensures) (rows .before .row2 .ensures) (rows .row3 .ensures) (across .marks .ensures) (high .marks2 .ensures)) (sides .before .wide .ensures))) (c .before .before .write .ensures)
 
 pub write-for-spec : {M : Type 1} → statement M
-write-for-spec =
-    tie.close
-    (tie.spec
-    wide-requires
-    wide-requires-2
-    row-requires
-    row-requires-2
-    row-requires-3
-    marks-requires
-    wide-requires-3
-    marks-requires-2
-    write-requires
-    same-length
-    returns)
+write-for-spec = tie.close (tie.spec (λ c κs. search needs) (λ c κs. search needs) (λ c κs. search needs) (λ c κs. search needs) (λ c κs. search needs) (λ c κs. search needs) (λ c κs. search needs) (λ c κs. search needs) write-requires (λ c. search needs) returns)

@@ -1,7 +1,7 @@
 -- For any list of pieces and any x, y ≥ 1 the best value exists, and `bestValue` computes it.
-use Prim.Native.Nat.{ℕ, zero, suc, _+_, _-_, _≤_, _<_}
+use Prim.Native.Nat.{ℕ, zero, suc, _+_, _-_, _≤_, _<_, max}
 use mathlib.Core.Bool.{Bool, true, false, cond}
-use mathlib.Core.Path.{_≡_, refl, sym, ap, subst}
+use mathlib.Core.Path.{_≡_, refl, sym, ap, ap₂, subst}
 use mathlib.Core.Logic.{⊎-elim}
 use mathlib.Core.List.{List}
 use native.Mathlib.Omega.{arith}
@@ -9,10 +9,11 @@ use lib.ListN.{length, getD}
 use Rattle.laws.specs.Inner.{Says}
 use Rattle.laws.proofs.Says.{says-and, says-eq}
 use Rattle.laws.proofs.Order.{larger}
-use Rattle.laws.proofs.Below.{bestBelow-bound, bestBelow-attained}
-use Rattle.cutting.specs.Piece.{Piece, sized, noPiece, Lays}
+use Rattle.laws.proofs.Below.{bestBelow-bound, bestBelow-attained, bestBelow-same}
+use Rattle.laws.proofs.Depth.{deep-own, deep-keeps}
+use Rattle.cutting.specs.Piece.{Piece, sized, noPiece, Lays, Lies}
 use Rattle.cutting.specs.Dissection.{rest, Line, Earns, Best}
-use Rattle.cutting.specs.Inner.{exactly, exactValue, everyLine, bestWithin, bestValue}
+use Rattle.cutting.specs.Inner.{exactly, exactValue, everyLine, bestBy, bestValue}
 use Rattle.cutting.proofs.Listed.{lays-listed, listed-lays}
 
 -- A piece earns its exact value on x by y, and one of this size earns its value.
@@ -40,11 +41,12 @@ exact-earned pieces x y =
     (λ t. subst (Earns (Lays pieces) x y) (sym (t .2)) (exactly-earned pieces (t .0) x y (t .1)))
     (bestBelow-attained (λ i. exactly (getD pieces i noPiece) x y) (length pieces))
 
-exact-bound : (pieces : List Piece) (x y v : ℕ) → Lays pieces x y v → v ≤ exactValue pieces x y
+exact-bound : (pieces : List Piece) (x y v : ℕ) → Lies pieces x y v → v ≤ exactValue pieces x y
 unfolding exactValue
 exact-bound pieces x y v l =
     let t = lays-listed l in
-    omega (arith, bestBelow-bound (λ i. exactly (getD pieces i noPiece) x y) (length pieces) (t .0) (t .1 .within), ap (λ (p : Piece). exactly p x y) (t .1 .is), exactly-sized x y v)
+    let worth = ap (λ (p : Piece). exactly p x y) (t .1 .is) in
+    omega (arith, bestBelow-bound (λ i. exactly (getD pieces i noPiece) x y) (length pieces) (t .0) (t .1 .within), worth, exactly-sized x y v)
 
 -- Every line is tried, and the best of them is earned where each part's number is.
 module _ (S : ℕ → Type 0) (part : ℕ → ℕ) (x : ℕ) where
@@ -59,28 +61,47 @@ everyLine-bound part x zero r l = absurd (omega arith)
 everyLine-bound part x (suc i) r l =
     omega (arith, bestBelow-bound (λ i. part (suc i) + part (rest x (suc i))) (x - 1) i (omega arith), ap part (l .leaves))
 
--- Whatever the depth, what is computed is earned.
-within-earned : (pieces : List Piece) (k x y : ℕ) → Earns (Lays pieces) x y (bestWithin pieces k x y)
-unfolding bestWithin
-within-earned pieces zero x y = exact-earned pieces x y
-within-earned pieces (suc k) x y =
-    larger (Earns (Lays pieces) x y) (exact-earned pieces x y)
-    (larger (Earns (Lays pieces) x y)
-    (everyLine-earned (Earns (Lays pieces) x y) (λ c. bestWithin pieces k c y) x Earns.scrap (λ c r l. Earns.vertical l (within-earned pieces k c y) (within-earned pieces k r y)))
-    (everyLine-earned (Earns (Lays pieces) x y) (λ d. bestWithin pieces k x d) y Earns.scrap (λ d r l. Earns.horizontal l (within-earned pieces k x d) (within-earned pieces k x r))))
+everyLine-same : (part other : ℕ → ℕ) (x : ℕ) → ((c : ℕ) → c < x → part c ≡ other c) → everyLine part x ≡ everyLine other x
+everyLine-same part other x h =
+    bestBelow-same _ _ (x - 1) (λ i b. ap₂ _+_ (h (suc i) (omega arith)) (h (rest x (suc i)) (omega arith)))
 
--- With depth enough, no dissection earns more.
-within-bound : (pieces : List Piece) (k : ℕ) {x y e : ℕ} → 1 ≤ x → 1 ≤ y → x + y ≤ k → Earns (Lays pieces) x y e → e ≤ bestWithin pieces k x y
-unfolding bestWithin
-within-bound pieces zero p q h d = absurd (omega arith)
-within-bound pieces (suc k) p q h Earns.scrap = omega arith
-within-bound pieces (suc k) {x} {y} {e} p q h (Earns.piece g) = omega (arith, exact-bound pieces x y e g)
-within-bound pieces (suc k) {x} {y} p q h (Earns.vertical {c = c} {r = r} l s t) =
-    omega (arith, within-bound pieces k (omega arith) q (omega arith) s, within-bound pieces k (omega arith) q (omega arith) t, everyLine-bound (λ c. bestWithin pieces k c y) x c r l)
-within-bound pieces (suc k) {x} {y} p q h (Earns.horizontal {d = d} {r = r} l s t) =
-    omega (arith, within-bound pieces k p (omega arith) (omega arith) s, within-bound pieces k p (omega arith) (omega arith) t, everyLine-bound (λ d. bestWithin pieces k x d) y d r l)
+module _ (pieces : List Piece) where
+  bestValue-own : (x y : ℕ) → bestValue pieces x y ≡ bestBy pieces (bestValue pieces) x y
+  unfolding bestValue bestBy
+  bestValue-own x y =
+      deep-own _ _ _
+      (λ f g s same. ap₂ (λ (m n : ℕ). max (exactValue pieces (s .0) (s .1)) (max m n))
+      (everyLine-same _ _ (s .0) (λ c l. same (c, s .1) (omega arith)))
+      (everyLine-same _ _ (s .1) (λ d l. same (s .0, d) (omega arith))))
+      (x, y)
+
+  -- What is computed is earned, and no dissection earns more.
+  bestBy-earned : (part : ℕ → ℕ → ℕ) → ((u w : ℕ) → Earns (Lays pieces) u w (part u w)) → (x y : ℕ) → Earns (Lays pieces) x y (bestBy pieces part x y)
+  unfolding bestBy
+  bestBy-earned part earned x y =
+      larger earns (exact-earned pieces x y)
+      (larger earns
+      (everyLine-earned earns (λ c. part c y) x Earns.scrap (λ c r l. Earns.vertical l (earned c y) (earned r y)))
+      (everyLine-earned earns (λ d. part x d) y Earns.scrap (λ d r l. Earns.horizontal l (earned x d) (earned x r))))
+    where
+      earns : ℕ → Type 0
+      earns = Earns (Lays pieces) x y
+
+  bestValue-earned : (x y : ℕ) → Earns (Lays pieces) x y (bestValue pieces x y)
+  unfolding bestValue
+  bestValue-earned x y =
+      deep-keeps _ _ _ (λ s v. Earns (Lays pieces) (s .0) (s .1) v) (λ s. Earns.scrap)
+      (λ part earned s. bestBy-earned (λ u w. part (u, w)) (λ u w. earned (u, w)) (s .0) (s .1))
+      (x, y)
+
+  bestValue-bound : {x y e : ℕ} → Earns (Lays pieces) x y e → e ≤ bestValue pieces x y
+  unfolding bestBy
+  bestValue-bound Earns.scrap = omega arith
+  bestValue-bound {x} {y} {e} (Earns.piece g) = omega (arith, bestValue-own x y, exact-bound pieces x y e g)
+  bestValue-bound {x} {y} (Earns.vertical {c = c} {r = r} l s t) =
+      omega (arith, bestValue-own x y, bestValue-bound s, bestValue-bound t, everyLine-bound (λ c. bestValue pieces c y) x c r l)
+  bestValue-bound {x} {y} (Earns.horizontal {d = d} {r = r} l s t) =
+      omega (arith, bestValue-own x y, bestValue-bound s, bestValue-bound t, everyLine-bound (λ d. bestValue pieces x d) y d r l)
 
 pub bestValue-best : (pieces : List Piece) (x y : ℕ) → 1 ≤ x → 1 ≤ y → Best (Lays pieces) x y (bestValue pieces x y)
-unfolding bestValue
-bestValue-best pieces x y p q =
-    record { attained = within-earned pieces (x + y) x y; bound = λ e d. within-bound pieces (x + y) p q (omega arith) d }
+bestValue-best pieces x y p q = record { attained = bestValue-earned pieces x y; bound = λ e d. bestValue-bound pieces d }

@@ -9,7 +9,7 @@ use lib.ListN.{length, getD, take, drop, set, length-append, length-set, length-
 use lib.Seq.{getD-append-add, getD-set-same, getD-set-other, getD-take, getD-drop, length-take-le, getD-append-seam}
 use Rattle.laws.proofs.Largest.{largest-same}
 use Rattle.laws.proofs.Order.{le-or-lt, last-or-below}
-use Rattle.cutting.specs.Piece.{Piece, noPiece, pieceAt, Lay, Lays, Fits}
+use Rattle.cutting.specs.Piece.{Piece, noPiece, pieceAt, Lay, Lays, Lies, Fits}
 use Rattle.cutting.specs.Dissection.{Earns, Best}
 use Rattle.cutting.proofs.Listed.{Listed, lays-listed, listed-lays}
 use Rattle.cutting.specs.Change.{added, corrected, removed, CoveredBy, TooLarge}
@@ -37,7 +37,7 @@ covered : (pieces others : List Piece) (x y : ℕ) → ((i : ℕ) → i < length
 unfolding Kept
 covered pieces others x y each p q v f l = place (lays-listed l)
   where
-    place : (i : ℕ) × Listed pieces i p q v → Lays others p q v
+    place : (i : ℕ) × Listed pieces i p q v → Lies others p q v
     place t =
         ⊎-elim (λ large. absurd (large (subst (λ (r : Piece). Fits (r .width) (r .height) x y) (sym (t .1 .is)) f)))
         (λ k. listed-lays (record { within = k .1; is = k .2 ∙ t .1 .is }))
@@ -57,13 +57,15 @@ added-leaves pieces new x y v large =
 
     back : (i : ℕ) → i < length (pieces ++ (new ∷ [])) → Kept (pieces ++ (new ∷ [])) pieces x y i
     back i h =
-        ⊎-elim (λ e. inl (subst (λ (r : Piece). TooLarge r x y) (sym (ap (λ (k : ℕ). getD (pieces ++ (new ∷ [])) k noPiece) e ∙ getD-append-seam pieces new [] noPiece)) large))
+        let last = getD-append-seam pieces new [] noPiece in
+        ⊎-elim (λ e. inl (subst (λ (r : Piece). TooLarge r x y) (sym (ap (λ (k : ℕ). getD (pieces ++ (new ∷ [])) k noPiece) e ∙ last)) large))
         (λ l. inr (i, l, sym (List·getD-append pieces (new ∷ []) noPiece i l)))
         (last-or-below (subst (λ (n : ℕ). i < n) longer h))
 
 module _ (pieces : List Piece) (k : ℕ) (first : 1 ≤ k) (last : k ≤ length pieces) where
   -- Correcting piece k leaves the best value of every rectangle in which neither the old nor the new size fits.
-  pub corrected-leaves : (new : Piece) (x y v : ℕ) → TooLarge (pieceAt pieces k) x y → TooLarge new x y → Best (Lays pieces) x y v ↔ Best (Lays (corrected pieces k new)) x y v
+  pub corrected-leaves : (new : Piece) (x y v : ℕ) → TooLarge (pieceAt pieces k) x y → TooLarge new x y
+      → Best (Lays pieces) x y v ↔ Best (Lays (corrected pieces k new)) x y v
   unfolding corrected pieceAt Kept
   corrected-leaves new x y v old large =
       fitting-only _ _ x y (covered pieces next x y forth) (covered next pieces x y back) v
@@ -80,8 +82,9 @@ module _ (pieces : List Piece) (k : ℕ) (first : 1 ≤ k) (last : k ≤ length 
 
       back : (i : ℕ) → i < length next → Kept next pieces x y i
       back i h =
+          let there = getD-set-same pieces (k - 1) new noPiece (omega arith) in
           elim (ℕ-discrete i (k - 1)) [
-            | yes e ↦ inl (subst (λ (r : Piece). TooLarge r x y) (sym (ap (λ (j : ℕ). getD next j noPiece) e ∙ getD-set-same pieces (k - 1) new noPiece (omega arith))) large)
+            | yes e ↦ inl (subst (λ (r : Piece). TooLarge r x y) (sym (ap (λ (j : ℕ). getD next j noPiece) e ∙ there)) large)
             | no n ↦ inr (i, omega (arith, length-set pieces (k - 1) new), sym (getD-set-other pieces (k - 1) i new noPiece n))
           ]
 

@@ -1,6 +1,7 @@
 -- The theorems, a file for each idea. docs/PROMISES.md says which sentence each one carries.
 pub mod Dissection
 pub mod Points
+pub mod Box
 pub mod Rule
 pub mod Listed
 pub mod Fitting

@@ -4,7 +4,7 @@ use mathlib.Core.Path.{_≡_, ap, _∙_}
 use mathlib.Core.List.{List}
 use native.Mathlib.Omega.{arith}
 use lib.ListN.{length, getD}
-use Rattle.cutting.specs.Piece.{Piece, sized, noPiece, pieceAt, Numbered, Lays}
+use Rattle.cutting.specs.Piece.{Piece, sized, noPiece, pieceAt, Numbered, Lies}
 
 -- The piece p by q of value v stands at index i.
 pub record Listed (pieces : List Piece) (i p q v : ℕ) : Type 0 where
@@ -19,14 +19,14 @@ numbered-listed n =
 pub listed-numbered : {pieces : List Piece} {i p q v : ℕ} → Listed pieces i p q v → Numbered pieces (suc i) p q v
 unfolding pieceAt
 listed-numbered {pieces} {i} {p} {q} {v} l =
-    record { first = omega arith; last = l .within; width = ap (λ (r : Piece). r .width) there; height = ap (λ (r : Piece). r .height) there; value = ap (λ (r : Piece). r .value) there }
+    record { first = omega arith; last = l .within; width = λ j. there j .width; height = λ j. there j .height; value = λ j. there j .value }
   where
     there : getD pieces (suc i - 1) noPiece ≡ sized p q v
     there = ap (λ (j : ℕ). getD pieces j noPiece) (omega arith) ∙ l .is
 
 -- A lay is a piece somewhere in the list.
-pub lays-listed : {pieces : List Piece} {p q v : ℕ} → Lays pieces p q v → (i : ℕ) × Listed pieces i p q v
+pub lays-listed : {pieces : List Piece} {p q v : ℕ} → Lies pieces p q v → (i : ℕ) × Listed pieces i p q v
 lays-listed l = (l .number - 1, numbered-listed (l .numbered))
 
-pub listed-lays : {pieces : List Piece} {i p q v : ℕ} → Listed pieces i p q v → Lays pieces p q v
+pub listed-lays : {pieces : List Piece} {i p q v : ℕ} → Listed pieces i p q v → Lies pieces p q v
 listed-lays {i = i} l = record { number = suc i; numbered = listed-numbered l }

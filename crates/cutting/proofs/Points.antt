@@ -1,13 +1,12 @@
 -- 001, Theorem 1: narrowing a rectangle to a point of P, or of Q, loses nothing.
 use Prim.Native.Nat.{ℕ, _+_, _-_, _≤_}
-use mathlib.Core.Path.{_≡_, refl, sym, subst}
 use mathlib.Core.Logic.{⊎-elim}
+use mathlib.Core.Path.{_≡_, refl, sym, subst}
 use native.Mathlib.Omega.{arith}
 use Rattle.laws.proofs.Order.{le-or-lt}
 use Rattle.cutting.specs.Piece.{Lay, Turned}
 use Rattle.cutting.specs.Dissection.{Line, Earns}
-use Rattle.cutting.specs.Points.{Sum, P}
-use Rattle.cutting.specs.Points.{Narrowed}
+use Rattle.cutting.specs.Points.{Sum, P, Narrowed}
 use Rattle.cutting.proofs.Dissection.{turned, widened}
 
 -- "P is additive": sums of sums are sums.

@@ -1,22 +1,22 @@
 -- Trees and dissections earn the same; a valid tree's areas make width times height, and its nodes are few.
-use Prim.Native.Nat.{ℕ, _+_, _-_, _*_, _≤_}
+use Prim.Native.Nat.{ℕ, _+_, _-_, _*_, _≤_, _<_}
 use mathlib.Core.Path.{_≡_, refl, sym, _∙_, subst, ap, ap₂}
+use mathlib.Core.Bool.{Bool, true, false, cond}
 use mathlib.Core.Logic.{_↔_}
 use mathlib.Core.List.{List}
 use native.Mathlib.Omega.{arith}
 use native.Mathlib.Nat.{add-mul, mul-le-mul}
 use Rattle.laws.specs.Largest.{Largest}
 use Rattle.laws.proofs.Largest.{largest-same}
-use Rattle.cutting.specs.Piece.{Piece, Lays}
-use Rattle.cutting.specs.Dissection.{Line, Earns, Best}
-use Rattle.cutting.specs.Tree.{Tree, Valid, earning, nodes, pieceArea, scrapArea}
-use Rattle.cutting.specs.Tree.{TreeEarns}
+use Rattle.cutting.specs.Piece.{Piece, Lays, Inside}
+use Rattle.cutting.specs.Dissection.{crossed, partWidth, partHeight, Line, Earns, Best}
+use Rattle.cutting.specs.Tree.{Tree, Valid, earning, nodes, pieceArea, scrapArea, TreeEarns}
 
 -- A valid tree is a dissection that earns what its leaves say.
 pub dissection-of : {pieces : List Piece} {t : Tree} {x y : ℕ} → Valid pieces t x y → Earns (Lays pieces) x y (earning pieces t)
 unfolding earning
-dissection-of (Valid.lineV l s t) = Earns.vertical l (dissection-of s) (dissection-of t)
-dissection-of (Valid.lineH l s t) = Earns.horizontal l (dissection-of s) (dissection-of t)
+dissection-of (Valid.line {tall = false} l s t) = Earns.vertical l (dissection-of s) (dissection-of t)
+dissection-of (Valid.line {tall = true} l s t) = Earns.horizontal l (dissection-of s) (dissection-of t)
 dissection-of {pieces} {x = x} {y = y} (Valid.pieceP {k = k} n) =
     Earns.piece (record { number = k; numbered = record { first = n .first; last = n .last; width = n .width; height = n .height; value = refl } })
 dissection-of Valid.scrapS = Earns.scrap
@@ -30,11 +30,11 @@ tree-of (Earns.piece h) =
 tree-of (Earns.vertical {c = c} l s t) =
     let m = tree-of s in
     let n = tree-of t in
-    record { tree = Tree.lineV c (m .tree) (n .tree); valid = Valid.lineV l (m .valid) (n .valid); earns = ap₂ _+_ (m .earns) (n .earns) }
+    record { tree = Tree.line false c (m .tree) (n .tree); valid = Valid.line {tall = false} l (m .valid) (n .valid); earns = ap₂ _+_ (m .earns) (n .earns) }
 tree-of (Earns.horizontal {d = d} l s t) =
     let m = tree-of s in
     let n = tree-of t in
-    record { tree = Tree.lineH d (m .tree) (n .tree); valid = Valid.lineH l (m .valid) (n .valid); earns = ap₂ _+_ (m .earns) (n .earns) }
+    record { tree = Tree.line true d (m .tree) (n .tree); valid = Valid.line {tall = true} l (m .valid) (n .valid); earns = ap₂ _+_ (m .earns) (n .earns) }
 
 -- The best over trees is the best over dissections.
 pub best-over-trees : (pieces : List Piece) (x y v : ℕ) → Best (Lays pieces) x y v ↔ Largest (TreeEarns pieces x y) v
@@ -42,18 +42,22 @@ best-over-trees pieces x y =
     largest-same (λ e. (tree-of, λ t. subst (Earns (Lays pieces) x y) (t .earns) (dissection-of (t .valid))))
 
 -- The two parts of a line have the area of the whole: "A cut has no width here."
-parts-area : (x y c r : ℕ) → Line x c r → c * y + r * y ≡ x * y
-parts-area x y c r l =
+sides-area : (x y c r : ℕ) → Line x c r → c * y + r * y ≡ x * y
+sides-area x y c r l =
     let whole : c + r ≡ x = omega arith in
     sym (add-mul c r y) ∙ ap (λ (k : ℕ). k * y) whole
+
+pub parts-area : (tall : Bool) (x y c r : ℕ) → Line (crossed tall x y) c r
+    → partWidth tall x c * partHeight tall y c + partWidth tall x r * partHeight tall y r ≡ x * y
+parts-area false x y c r l = sides-area x y c r l
+parts-area true x y c r l = omega (arith, sides-area y x c r l)
 
 -- "it is proved that together they make width times height".
 pub areas : {pieces : List Piece} {t : Tree} {x y : ℕ} → Valid pieces t x y → pieceArea pieces t + scrapArea t x y ≡ x * y
 unfolding pieceArea scrapArea
-areas {x = x} {y = y} (Valid.lineV {c = c} {r = r} {t = t} l m n) =
-    omega (arith, areas m, areas n, ap (λ (k : ℕ). scrapArea t k y) (l .leaves), parts-area x y c r l)
-areas {x = x} {y = y} (Valid.lineH {d = d} {r = r} {t = t} l m n) =
-    omega (arith, areas m, areas n, ap (λ (k : ℕ). scrapArea t x k) (l .leaves), parts-area y x d r l)
+areas {x = x} {y = y} (Valid.line {tall = tall} {c = c} {r = r} {t = t} l m n) =
+    let far = ap (λ (k : ℕ). scrapArea t (partWidth tall x k) (partHeight tall y k)) (l .leaves) in
+    omega (arith, areas m, areas n, far, parts-area tall x y c r l)
 areas (Valid.pieceP n) = omega (arith, ap₂ _*_ (n .width) (n .height))
 areas Valid.scrapS = omega arith
 
@@ -61,12 +65,30 @@ areas Valid.scrapS = omega arith
 leaf-few : (x y : ℕ) → 1 ≤ x → 1 ≤ y → 1 + 1 ≤ 2 * (x * y)
 leaf-few x y h k = omega (arith, mul-le-mul {n₁ = 1} {m₁ = 1} h k)
 
+-- A part has sides of 1 at least.
+pub line-far : {x c r : ℕ} → Line x c r → 1 ≤ r
+line-far l = omega arith
+
+pub least : (b : Bool) (m n : ℕ) → 1 ≤ m → 1 ≤ n → 1 ≤ cond b m n
+least true m n h k = h
+least false m n h k = k
+
+-- A part of a line is shorter around than the whole.
+pub part-less : (tall : Bool) (x y c : ℕ) → c < crossed tall x y → partWidth tall x c + partHeight tall y c < x + y
+part-less true x y c h = omega arith
+part-less false x y c h = omega arith
+
+-- And lies inside it.
+pub part-inside : (tall : Bool) (x y c : ℕ) → 1 ≤ x → 1 ≤ y → 1 ≤ c → c ≤ crossed tall x y → Inside (partWidth tall x c) (partHeight tall y c) x y
+part-inside true x y c h k l m = omega arith
+part-inside false x y c h k l m = omega arith
+
 within-area : {pieces : List Piece} {t : Tree} {x y : ℕ} → Valid pieces t x y → 1 ≤ x → 1 ≤ y → nodes t + 1 ≤ 2 * (x * y)
 unfolding nodes
-within-area {x = x} {y = y} (Valid.lineV {c = c} {r = r} l m n) h k =
-    omega (arith, within-area m (l .least) k, within-area n (omega arith) k, parts-area x y c r l)
-within-area {x = x} {y = y} (Valid.lineH {d = d} {r = r} l m n) h k =
-    omega (arith, within-area m h (l .least), within-area n h (omega arith), parts-area y x d r l)
+within-area {x = x} {y = y} (Valid.line {tall = tall} {c = c} {r = r} l m n) h k =
+    let near = within-area m (least tall x c h (l .least)) (least tall c y (l .least) k) in
+    let far = within-area n (least tall x r h (line-far l)) (least tall r y (line-far l) k) in
+    omega (arith, near, far, parts-area tall x y c r l)
 within-area {x = x} {y = y} (Valid.pieceP n) h k = leaf-few x y h k
 within-area {x = x} {y = y} Valid.scrapS h k = leaf-few x y h k
 

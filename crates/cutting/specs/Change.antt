@@ -19,4 +19,4 @@ TooLarge piece x y = Fits (piece .width) (piece .height) x y → ⊥
 
 -- Every size of the one lay that fits in x by y may lie in the other too, for the same value.
 abbrev pub CoveredBy : Lay → Lay → ℕ → ℕ → Type 0
-CoveredBy lay other x y = (p q v : ℕ) → Fits p q x y → lay p q v → other p q v
+CoveredBy lay other x y = (p q v : ℕ) → Fits p q x y → lay .lies p q v → other .lies p q v

@@ -30,19 +30,22 @@ pub record Numbered (pieces : List Piece) (k p q v : ℕ) : Type 0 where
   pub height : pieceAt pieces k .height ≡ q
   pub value : pieceAt pieces k .value ≡ v
 
--- Which sizes may lie on the board, and for what value: `lay p q v`. Everything below speaks of such a relation and not of
+-- What may lie on the board: `lies p q v`, a size p by q for the value v. Everything below speaks of such a relation and not of
 -- lists, so that other lays (turned ones, or only those within a height) are other relations and no new theory.
-abbrev pub Lay : Type 1
-Lay = ℕ → ℕ → ℕ → Type 0
+pub record Lay : Type 1 where
+  pub lies : ℕ → ℕ → ℕ → Type 0
 
--- The lays of a list of pieces: "the grain is fixed", so each piece lies as it is.
-pub record Lays (pieces : List Piece) (p q v : ℕ) : Type 0 where
+-- "the grain is fixed", so each piece of a list lies as it is.
+pub record Lies (pieces : List Piece) (p q v : ℕ) : Type 0 where
   pub number : ℕ
   pub numbered : Numbered pieces number p q v
 
+abbrev pub Lays : List Piece → Lay
+Lays pieces = record { lies = Lies pieces }
+
 -- Widths and heights are one theory, turned.
 abbrev pub Turned : Lay → Lay
-Turned lay p q v = lay q p v
+Turned lay = record { lies = λ p q v. lay .lies q p v }
 
 -- "piece width p, height q: 1 to 4,095", "piece value v: 1 to 65,535"
 pub record PieceInRange (p q v : ℕ) : Type 0 where
@@ -54,7 +57,7 @@ pub record PieceInRange (p q v : ℕ) : Type 0 where
   pub valueMost : v ≤ valueMax
 
 abbrev pub InRange : Lay → Type 0
-InRange lay = (p q v : ℕ) → lay p q v → PieceInRange p q v
+InRange lay = (p q v : ℕ) → lay .lies p q v → PieceInRange p q v
 
 -- A size p by q fits in x by y: "p ≤ x and q ≤ y".
 pub record Fits (p q x y : ℕ) : Type 0 where

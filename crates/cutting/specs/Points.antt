@@ -9,7 +9,7 @@ use Rattle.cutting.specs.Dissection.{Earns}
 pub record Width (lay : Lay) (p : ℕ) : Type 0 where
   pub height : ℕ
   pub value : ℕ
-  pub lies : lay p height value
+  pub lies : lay .lies p height value
 
 -- "sums of one or more .., repeats allowed"
 pub data Sum (size : ℕ → Type 0) : ℕ → Type 0 where

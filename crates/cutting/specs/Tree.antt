@@ -1,49 +1,51 @@
 -- Trees as the plan file has them: "V" c, "H" d, "P" piece number, "S" 0.
 use Prim.Native.Nat.{ℕ, _+_, _*_}
 use mathlib.Core.Path.{_≡_}
+use mathlib.Core.Bool.{Bool}
 use mathlib.Core.List.{List}
 use Rattle.cutting.specs.Piece.{Piece, pieceAt, Numbered}
-use Rattle.cutting.specs.Dissection.{rest, Line}
+use Rattle.cutting.specs.Dissection.{rest, crossed, partWidth, partHeight, Line}
 
 -- "a line before its left or lower part and that before the other"
 pub data Tree : Type 0 where
-  lineV : ℕ → Tree → Tree → Tree
-  lineH : ℕ → Tree → Tree → Tree
+  -- A vertical line, or a horizontal one (`tall`), at its number.
+  line : (tall : Bool) → ℕ → Tree → Tree → Tree
   pieceP : ℕ → Tree
   scrapS : Tree
 
 -- The tree dissects x by y: each line lies inside its rectangle, each piece number is one of 1 to n and of exactly this size.
 pub data Valid (pieces : List Piece) : Tree → ℕ → ℕ → Type 0 where
-  lineV : {x y c r : ℕ} {s t : Tree} → Line x c r → Valid pieces s c y → Valid pieces t r y → Valid pieces (Tree.lineV c s t) x y
-  lineH : {x y d r : ℕ} {s t : Tree} → Line y d r → Valid pieces s x d → Valid pieces t x r → Valid pieces (Tree.lineH d s t) x y
+  line : {tall : Bool} {x y c r : ℕ} {s t : Tree}
+      → Line (crossed tall x y) c r
+      → Valid pieces s (partWidth tall x c) (partHeight tall y c)
+      → Valid pieces t (partWidth tall x r) (partHeight tall y r)
+      → Valid pieces (Tree.line tall c s t) x y
   pieceP : {x y k v : ℕ} → Numbered pieces k x y v → Valid pieces (Tree.pieceP k) x y
   scrapS : {x y : ℕ} → Valid pieces Tree.scrapS x y
 
 -- "Its earning is the sum over its leaves."
 unfoldable pub earning : List Piece → Tree → ℕ
-earning pieces (Tree.lineV c s t) = earning pieces s + earning pieces t
-earning pieces (Tree.lineH d s t) = earning pieces s + earning pieces t
+earning pieces (Tree.line tall c s t) = earning pieces s + earning pieces t
 earning pieces (Tree.pieceP k) = pieceAt pieces k .value
 earning pieces Tree.scrapS = 0
 
 -- How many nodes it has: each line, piece and scrap is one.
 unfoldable pub nodes : Tree → ℕ
-nodes (Tree.lineV c s t) = 1 + nodes s + nodes t
-nodes (Tree.lineH d s t) = 1 + nodes s + nodes t
+nodes (Tree.line tall c s t) = 1 + nodes s + nodes t
 nodes (Tree.pieceP k) = 1
 nodes Tree.scrapS = 1
 
 -- "piece area and scrap area. Each area is the sum over its own leaves".
 unfoldable pub pieceArea : List Piece → Tree → ℕ
-pieceArea pieces (Tree.lineV c s t) = pieceArea pieces s + pieceArea pieces t
-pieceArea pieces (Tree.lineH d s t) = pieceArea pieces s + pieceArea pieces t
+pieceArea pieces (Tree.line tall c s t) = pieceArea pieces s + pieceArea pieces t
 pieceArea pieces (Tree.pieceP k) = pieceAt pieces k .width * pieceAt pieces k .height
 pieceArea pieces Tree.scrapS = 0
 
 -- The tree is laid on x by y.
 unfoldable pub scrapArea : Tree → ℕ → ℕ → ℕ
-scrapArea (Tree.lineV c s t) x y = scrapArea s c y + scrapArea t (rest x c) y
-scrapArea (Tree.lineH d s t) x y = scrapArea s x d + scrapArea t x (rest y d)
+scrapArea (Tree.line tall c s t) x y =
+    let r = rest (crossed tall x y) c in
+    scrapArea s (partWidth tall x c) (partHeight tall y c) + scrapArea t (partWidth tall x r) (partHeight tall y r)
 scrapArea (Tree.pieceP k) x y = 0
 scrapArea Tree.scrapS x y = x * y
 

@@ -1,14 +1,14 @@
 -- The laws of little-endian numbers: reading and writing are inverse to each other, at any place of a row.
-use Prim.Native.Nat.{ℕ, suc, _+_, _/_, _%_, _≤_, _<_}
+use Prim.Native.Nat.{ℕ, suc, _+_, _*_, _/_, _%_, _≤_, _<_}
 use mathlib.Core.Path.{_≡_, refl, sym, ap, ap₂, _∙_}
 use mathlib.Core.List.{List, [], _∷_, _++_, append-assoc}
 use native.Mathlib.Omega.{arith}
 use native.Mathlib.Nat.{add-zero}
 use native.Mathlib.Numerals.{add-one}
-use lib.ListN.{length, take, drop, getD, set}
+use lib.ListN.{length, take, drop, getD, set, length-append}
 use lib.Seq.{getD-drop, drop-cons, drop-at, drop-drop, take-add, sets}
 use Rattle.laws.specs.Put.{put}
-use Rattle.laws.proofs.Put.{put-sets, put-put}
+use Rattle.laws.proofs.Put.{put-sets, put-next}
 use Rattle.fields.specs.Number.{joined, joinedHalves, number2Of, number4Of, bytes2, bytes4, Bytes}
 
 pub bytes2-length : (n : ℕ) → length (bytes2 n) ≡ 2
@@ -93,10 +93,23 @@ put-bytes2 o at n {a} {b} h e f =
     rw add-one (ap₂ (λ (x y : ℕ). sets o at (x ∷ (y ∷ []))) e f ∙ put-sets o at (bytes2 n) h)
 
 -- Two numbers of two bytes, one behind the other, are one of four.
-pub put-bytes4 : (o p q : List ℕ) (at n : ℕ) {a b : ℕ} → at + 2 ≤ length o → a ≡ n % 65_536 → b ≡ n / 65_536 → p ≡ put o at (bytes2 a) → q ≡ put p (at + 2) (bytes2 b) → q ≡ put o at (bytes4 n)
+pub put-bytes4 : (o p q : List ℕ) (at n : ℕ) {a b : ℕ} → at + 2 ≤ length o → a ≡ n % 65_536 → b ≡ n / 65_536 → p ≡ put o at (bytes2 a)
+    → q ≡ put p (at + 2) (bytes2 b) → q ≡ put o at (bytes4 n)
 unfolding bytes4
 put-bytes4 o p q at n {a} {b} h e f g i =
-    let two : at + length (bytes2 a) ≡ at + 2 = ap (λ (k : ℕ). at + k) (bytes2-length a) in
-    i
-    ∙ (ap₂ (λ (l : List ℕ) (k : ℕ). put l k (bytes2 b)) g (sym two)
-    ∙ (put-put o at (bytes2 a) (bytes2 b) (omega arith) ∙ ap₂ (λ (x y : ℕ). put o at (bytes2 x ++ bytes2 y)) e f))
+    put-next o at (bytes2 a) (bytes2 b) (omega (arith, bytes2-length a)) (omega (arith, bytes2-length a)) g i
+    ∙ ap₂ (λ (x y : ℕ). put o at (bytes2 x ++ bytes2 y)) e f
+
+-- Three numbers of k bytes each, one behind the other.
+pub put-three : (k : ℕ) (bytes : ℕ → List ℕ) → ((n : ℕ) → length (bytes n) ≡ k) → (o : List ℕ) (at a b d : ℕ) {p q r : List ℕ}
+    → at + 3 * k ≤ length o
+    → p ≡ put o at (bytes a)
+    → q ≡ put p (at + k) (bytes b)
+    → r ≡ put q (at + 2 * k) (bytes d)
+    → r ≡ put o at (bytes a ++ (bytes b ++ bytes d))
+put-three k bytes long o at a b d h e f g =
+    let two : length (bytes a ++ bytes b) ≡ 2 * k = length-append (bytes a) (bytes b) ∙ omega (arith, long a, long b) in
+    put-next o at (bytes a ++ bytes b) (bytes d) (omega arith) (omega arith)
+    (put-next o at (bytes a) (bytes b) (omega (arith, long a)) (omega (arith, long a)) e f)
+    g
+    ∙ ap (put o at) (append-assoc (bytes a) (bytes b) (bytes d))

@@ -19,7 +19,8 @@ sum-append start [] t = refl
 sum-append start (b ∷ s) t = sum-append (sumStep start b) s t
 
 -- Over one byte more: the code's k + 1.
-pub sum-more : (start : ℕ) (s : List ℕ) (k : ℕ) {sum r : ℕ} → k < length s → sum ≡ runningSum start (take k s) → r ≡ sumStep sum (getD s k 0) → r ≡ runningSum start (take (k + 1) s)
+pub sum-more : (start : ℕ) (s : List ℕ) (k : ℕ) {sum r : ℕ} → k < length s → sum ≡ runningSum start (take k s) → r ≡ sumStep sum (getD s k 0)
+    → r ≡ runningSum start (take (k + 1) s)
 unfolding runningSum
 sum-more start s k h e f =
     rw (add-one, take-suc s k 0) (f ∙ (ap (λ (n : ℕ). sumStep n (getD s k 0)) e ∙ sym (sum-append start (take k s) (getD s k 0 ∷ []))))

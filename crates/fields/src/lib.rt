@@ -1,10 +1,13 @@
 // The fields of a plan file: little-endian numbers of two and four bytes, read and written, and the running sum.
 ghost use mathlib.Core.Path.{_≡_};
 ghost use Prim.Native.Nat.{_+_, _≤_, _%_, _/_};
-ghost use lib.ListN.{length, take};
+ghost use lib.ListN.{length};
 ghost use Rattle.laws.specs.Put.{put};
 ghost use Rattle.fields.specs.Number.{joined, joinedHalves, number2Of, number4Of, bytes2, bytes4};
 ghost use Rattle.fields.specs.Sum.{sumStep, runningSum, sumOf};
+
+pub mod cast;
+pub mod format;
 
 // The number of two bytes.
 fn join(low: u8, high: u8) -> u16

@@ -8,7 +8,7 @@ use native.Mathlib.Omega.{arith}
 use lib.ListN.{length, getD, take, drop, length-append, length-drop, take-append-drop, List·getD-eq-default}
 use native.Mathlib.Nat.{add-zero}
 use lib.Seq.{drop-drop, drop-nil, drop-append-add, take-add, drop-cons, take-all, drop-at}
-use Rattle.laws.specs.Inner.{Says, filled}
+use Rattle.laws.specs.Inner.{Says, filledRow}
 use Rattle.laws.specs.ByIndex.{byIndex}
 use Rattle.laws.specs.Put.{put}
 use Rattle.laws.proofs.Order.{le-or-lt}
@@ -23,11 +23,10 @@ use Rattle.cutting.specs.Piece.{Piece, noPiece}
 use Rattle.job.specs.declared.Piece.{Piece as Record}
 use Rattle.job.specs.declared.Job.{Job}
 use Rattle.job.specs.declared.Blocked.{Blocked}
-use Rattle.job.specs.Job.{pieceOf, recordOf, noRecord, piecesOf, jobOf, zeroJob}
+use Rattle.job.specs.Job.{pieceOf, recordOf, noRecord, piecesOf, jobOf, zeroJob, Tidy}
 use Rattle.job.specs.Inner.{blockShape, fromBlock}
-use Rattle.job.specs.Block.{InFields}
-use Rattle.job.specs.Job.{Tidy}
-use Rattle.job.specs.Block.{headBytes, pieceBytes, blockLength, bytesOfPiece, bytesOfPieces, bytesOfHead, block, blockOf, countIn, pieceFrom, pieceIn, jobIn, BlockShape}
+use Rattle.job.specs.Block.{InFields, blockLength, bytesOfPiece, bytesOfPieces, bytesOfHead, block, blockOf, countIn, pieceFrom, pieceIn, jobIn, BlockShape}
+use Rattle.fields.specs.Format.{headBytes, pieceBytes}
 use Rattle.job.specs.Range.{JobInRange}
 use Rattle.job.proofs.Range.{in-range-each}
 use Rattle.job.proofs.Pieces.{pieces-length, is-jobOf, pieces-jobOf}
@@ -61,29 +60,25 @@ pieces-append (p ∷ s) t = ap (λ (l : List ℕ). bytesOfPiece p ++ l) (pieces-
 
 -- Writing.
 
--- Three numbers of two bytes, one behind the other.
-pub put-three : (o : List ℕ) (at a b d : ℕ) {p q r : List ℕ} → at + 6 ≤ length o → p ≡ put o at (bytes2 a) → q ≡ put p (at + 2) (bytes2 b) → r ≡ put q (at + 4) (bytes2 d) → r ≡ put o at (bytes2 a ++ (bytes2 b ++ bytes2 d))
-put-three o at a b d h e f g =
-    let two : length (bytes2 a ++ bytes2 b) ≡ 4 = simp length-append (omega (arith, bytes2-length a, bytes2-length b)) in
-    put-next o at (bytes2 a ++ bytes2 b) (bytes2 d) (omega arith) (omega arith)
-    (put-next o at (bytes2 a) (bytes2 b) (omega (arith, bytes2-length a)) (omega (arith, bytes2-length a)) e f)
-    g
-    ∙ ap (put o at) (append-assoc (bytes2 a) (bytes2 b) (bytes2 d))
-
 -- No piece yet, and all of them.
 pub put-pieces-none : (o : List ℕ) (piece : ℕ → Piece) → o ≡ put o headBytes (bytesOfPieces (byIndex piece 0))
 unfolding bytesOfPieces byIndex
 put-pieces-none o piece = sym (put-none o headBytes)
 
-pub put-pieces-end : (o : List ℕ) (job : Job) {n : ℕ} {p : List ℕ} → p ≡ put o headBytes (bytesOfPieces (byIndex (λ k. pieceOf (getD (job .pieces) k noRecord)) n)) → n ≡ job .count → p ≡ put o headBytes (bytesOfPieces (piecesOf job))
+pub put-pieces-end : (o : List ℕ) (job : Job) {n : ℕ} {p : List ℕ}
+    → p ≡ put o headBytes (bytesOfPieces (byIndex (λ k. pieceOf (getD (job .pieces) k noRecord)) n)) → n ≡ job .count
+    → p ≡ put o headBytes (bytesOfPieces (piecesOf job))
 unfolding piecesOf
 put-pieces-end o job e f = e ∙ ap (λ (n : ℕ). put o headBytes (bytesOfPieces (byIndex (λ k. pieceOf (getD (job .pieces) k noRecord)) n))) f
 
 -- One piece more behind those that are written.
-pub put-piece-more : (o : List ℕ) (piece : ℕ → Piece) (k : ℕ) {p q : List ℕ} {at : ℕ} → blockLength k ≤ length o → at ≡ blockLength k → p ≡ put o headBytes (bytesOfPieces (byIndex piece k)) → q ≡ put p at (bytesOfPiece (piece k)) → q ≡ put o headBytes (bytesOfPieces (byIndex piece (k + 1)))
+pub put-piece-more : (o : List ℕ) (piece : ℕ → Piece) (k : ℕ) {p q : List ℕ} {at : ℕ} → blockLength k ≤ length o → at ≡ blockLength k
+    → p ≡ put o headBytes (bytesOfPieces (byIndex piece k)) → q ≡ put p at (bytesOfPiece (piece k))
+    → q ≡ put o headBytes (bytesOfPieces (byIndex piece (k + 1)))
 unfolding bytesOfPieces
 put-piece-more o piece k h l e f =
-    let before : length (bytesOfPieces (byIndex piece k)) ≡ k * pieceBytes = pieces-bytes-length (byIndex piece k) ∙ ap (λ (n : ℕ). n * pieceBytes) (byIndex-length piece k) in
+    let before : length (bytesOfPieces (byIndex piece k)) ≡ k * pieceBytes =
+    pieces-bytes-length (byIndex piece k) ∙ ap (λ (n : ℕ). n * pieceBytes) (byIndex-length piece k) in
     let more : bytesOfPieces (byIndex piece (k + 1)) ≡ bytesOfPieces (byIndex piece k) ++ bytesOfPiece (piece k) =
     ap bytesOfPieces (byIndex-more piece k)
     ∙ (pieces-append (byIndex piece k) (piece k ∷ []) ∙ ap (λ (b : List ℕ). bytesOfPieces (byIndex piece k) ++ b) (append-nil (bytesOfPiece (piece k)))) in
@@ -91,7 +86,8 @@ put-piece-more o piece k h l e f =
     ∙ ap (put o headBytes) (sym more)
 
 -- The head and then the pieces.
-pub put-block-done : (o : List ℕ) (width height : ℕ) (pieces : List Piece) {n : ℕ} {p q : List ℕ} → headBytes ≤ length o → n ≡ length pieces → p ≡ put o 0 (bytesOfHead width height n) → q ≡ put p headBytes (bytesOfPieces pieces) → q ≡ put o 0 (block width height pieces)
+pub put-block-done : (o : List ℕ) (width height : ℕ) (pieces : List Piece) {n : ℕ} {p q : List ℕ} → headBytes ≤ length o → n ≡ length pieces
+    → p ≡ put o 0 (bytesOfHead width height n) → q ≡ put p headBytes (bytesOfPieces pieces) → q ≡ put o 0 (block width height pieces)
 unfolding block
 put-block-done o width height pieces {n} h l e f =
     let six : length (bytesOfHead width height n) ≡ headBytes = head-length width height n in
@@ -110,19 +106,22 @@ shape-says s =
 pub piece-in : (s : List ℕ) (k : ℕ) {at : ℕ} {r : Record} → at ≡ blockLength k → r ≡ recordOf (pieceFrom s at) → r ≡ recordOf (pieceIn s k)
 piece-in s k e f = f ∙ ap (λ (at : ℕ). recordOf (pieceFrom s at)) e
 
-pub from-block-no : (s : List ℕ) {b : Bool} {job : Job} → b ≡ blockShape s → not b ≡ true → job ≡ zeroJob → _≡_ {A = Blocked} (record { ok = false; job = job }) (fromBlock s)
+-- A block is read by whether it has the shape.
+from-block-by : (s : List ℕ) {b : Bool} → blockShape s ≡ b → fromBlock s ≡ cond b (record { ok = true; job = jobIn s }) (record { ok = false; job = zeroJob })
 unfolding fromBlock
-from-block-no s e h f =
-    let none : blockShape s ≡ false = sym e ∙ not-true h in
-    ap (λ (j : Job). record { ok = false; job = j }) f ∙ sym (ap (λ (b : Bool). cond b (record { ok = true; job = jobIn s }) (record { ok = false; job = zeroJob })) none)
+from-block-by s e = ap (λ (b : Bool). cond b (record { ok = true; job = jobIn s }) (record { ok = false; job = zeroJob })) e
 
-pub from-block-yes : (s : List ℕ) {b : Bool} {job : Job} → b ≡ blockShape s → not b ≡ false → job ≡ jobIn s → _≡_ {A = Blocked} (record { ok = true; job = job }) (fromBlock s)
-unfolding fromBlock
-from-block-yes s e h f =
-    let whole : blockShape s ≡ true = sym e ∙ not-false h in
-    ap (λ (j : Job). record { ok = true; job = j }) f ∙ sym (ap (λ (b : Bool). cond b (record { ok = true; job = jobIn s }) (record { ok = false; job = zeroJob })) whole)
+pub from-block-no : (s : List ℕ) {b : Bool} {job : Job} → b ≡ blockShape s → not b ≡ true → job ≡ zeroJob
+    → _≡_ {A = Blocked} (record { ok = false; job = job }) (fromBlock s)
+from-block-no s e h f = ap (λ (j : Job). record { ok = false; job = j }) f ∙ sym (from-block-by s (sym e ∙ not-true h))
 
-pub job-in-done : (s : List ℕ) {w h n : ℕ} {records : List Record} → w ≡ number2Of s 0 → h ≡ number2Of s 2 → n ≡ countIn s → records ≡ filled (λ k. recordOf (pieceIn s k)) noRecord n piecesMax → _≡_ {A = Job} (record { width = w; height = h; count = n; pieces = records }) (jobIn s)
+pub from-block-yes : (s : List ℕ) {b : Bool} {job : Job} → b ≡ blockShape s → not b ≡ false → job ≡ jobIn s
+    → _≡_ {A = Blocked} (record { ok = true; job = job }) (fromBlock s)
+from-block-yes s e h f = ap (λ (j : Job). record { ok = true; job = j }) f ∙ sym (from-block-by s (sym e ∙ not-false h))
+
+pub job-in-done : (s : List ℕ) {w h n : ℕ} {records : List Record} → w ≡ number2Of s 0 → h ≡ number2Of s 2 → n ≡ countIn s
+    → records ≡ filledRow (λ k. recordOf (pieceIn s k)) noRecord n piecesMax
+    → _≡_ {A = Job} (record { width = w; height = h; count = n; pieces = records }) (jobIn s)
 unfolding jobIn
 job-in-done s {w} {h} {n} {records} e f g i =
     let pieces : List Piece = byIndex (pieceIn s) (countIn s) in
@@ -152,10 +151,12 @@ module _ (a b d : ℕ) (r : List ℕ) where
       ∙ number2-behind (bytes2 a ++ bytes2 b) d r 4 four h
 
 -- The numbers of three fields are written as the bytes that stand there.
-three-written : (s : List ℕ) (at : ℕ) → Bytes s → at + 6 ≤ length s → bytes2 (number2Of s at) ++ (bytes2 (number2Of s (at + 2)) ++ bytes2 (number2Of s (at + 4))) ≡ take 6 (drop at s)
+three-written : (s : List ℕ) (at : ℕ) → Bytes s → at + 6 ≤ length s
+    → bytes2 (number2Of s at) ++ (bytes2 (number2Of s (at + 2)) ++ bytes2 (number2Of s (at + 4))) ≡ take 6 (drop at s)
 three-written s at b h =
     let first : bytes2 (number2Of s at) ≡ take 2 (drop at s) = bytes2-number s at b (omega arith) in
-    let second : bytes2 (number2Of s (at + 2)) ≡ take 2 (drop 2 (drop at s)) = bytes2-number s (at + 2) b (omega arith) ∙ ap (take 2) (sym (drop-drop 2 at s)) in
+    let second : bytes2 (number2Of s (at + 2)) ≡ take 2 (drop 2 (drop at s)) =
+    bytes2-number s (at + 2) b (omega arith) ∙ ap (take 2) (sym (drop-drop 2 at s)) in
     let four : at + 2 + 2 ≡ at + 4 = omega arith in
     let third : bytes2 (number2Of s (at + 4)) ≡ take 2 (drop 2 (drop 2 (drop at s))) =
     bytes2-number s (at + 4) b (omega arith) ∙ ap (take 2) (sym (ap (drop 2) (drop-drop 2 at s) ∙ (drop-drop 2 (at + 2) s ∙ ap (λ (k : ℕ). drop k s) four))) in
@@ -209,9 +210,10 @@ module _ (width height : ℕ) (pieces : List Piece) (fits : InFields width heigh
   piece-read : (k : ℕ) → k < length pieces → pieceIn bytes k ≡ getD pieces k noPiece
   unfolding block bytesOfPieces
   piece-read k h =
+      let head : List ℕ = bytesOfHead width height (length pieces) in
       let place : drop (blockLength k) bytes ≡ bytesOfPieces (drop k pieces) =
       sym (drop-drop (k * pieceBytes) headBytes bytes)
-      ∙ (ap (drop (k * pieceBytes)) (drop-at (bytesOfHead width height (length pieces)) (bytesOfPieces pieces) headBytes (head-length width height (length pieces)))
+      ∙ (ap (drop (k * pieceBytes)) (drop-at head (bytesOfPieces pieces) headBytes (head-length width height (length pieces)))
       ∙ pieces-drop k pieces) in
       piece-drop bytes (blockLength k)
       ∙ (ap (λ (l : List ℕ). pieceFrom l 0) (place ∙ ap bytesOfPieces (drop-cons pieces k noPiece h))
@@ -234,7 +236,8 @@ module _ (width height : ℕ) (pieces : List Piece) (fits : InFields width heigh
   from-block-of-block = sym (from-block-yes bytes {b = true} (sym (shape-says bytes .found block-shape)) refl (sym block-read))
 
 -- No two jobs have the same block.
-pub block-injective : (a b : ℕ) (s : List Piece) (c d : ℕ) (t : List Piece) → InFields a b s → InFields c d t → block a b s ≡ block c d t → jobOf a b s ≡ jobOf c d t
+pub block-injective : (a b : ℕ) (s : List Piece) (c d : ℕ) (t : List Piece) → InFields a b s → InFields c d t → block a b s ≡ block c d t
+    → jobOf a b s ≡ jobOf c d t
 block-injective a b s c d t f g e = sym (block-read a b s f) ∙ (ap jobIn e ∙ block-read c d t g)
 
 -- What is read as a block is the block of what was read.
@@ -242,7 +245,8 @@ pub piece-written : (s : List ℕ) (at : ℕ) → Bytes s → at + pieceBytes �
 unfolding pieceFrom bytesOfPiece
 piece-written s at b h = three-written s at b h
 
-pub pieces-written : (s : List ℕ) (n at : ℕ) → Bytes s → at + n * pieceBytes ≤ length s → bytesOfPieces (byIndex (λ k. pieceFrom s (at + k * pieceBytes)) n) ≡ take (n * pieceBytes) (drop at s)
+pub pieces-written : (s : List ℕ) (n at : ℕ) → Bytes s → at + n * pieceBytes ≤ length s
+    → bytesOfPieces (byIndex (λ k. pieceFrom s (at + k * pieceBytes)) n) ≡ take (n * pieceBytes) (drop at s)
 unfolding bytesOfPieces byIndex
 pieces-written s zero at b h = refl
 pieces-written s (suc n) at b h =

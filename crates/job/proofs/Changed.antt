@@ -8,7 +8,7 @@ use native.Mathlib.Omega.{arith}
 use lib.ListN.{length, getD, set, take, drop, length-append, length-drop, length-set, List·getD-append}
 use lib.Seq.{getD-append-seam, getD-append-add, getD-take, getD-drop, getD-set-same, getD-set-other, length-take-le}
 use borrow.Author.Tests.{lt-ltb, le-ltb}
-use Rattle.laws.specs.Inner.{filled}
+use Rattle.laws.specs.Inner.{filledRow}
 use Rattle.laws.proofs.Order.{le-or-lt, last-or-below, eq-or-not}
 use Rattle.laws.proofs.Filled.{filled-more, filled-same, filled-set, filled-end}
 use Rattle.cutting.specs.Piece.{Piece, noPiece}
@@ -100,29 +100,34 @@ module _ (job : Job) where
   kept-as-is : (gap k : ℕ) → k < gap → k < job .count → from gap k ≡ recordOf (getD (piecesOf job) k noPiece)
   kept-as-is gap k h l = ap (λ (i : ℕ). getD (job .pieces) i noRecord) (moved-low gap k h) ∙ record-at job k l
 
-  pub added-done : (new : Record) {n : ℕ} {kept : List Record} → job .count < piecesMax → n ≡ job .count → kept ≡ filled (from n) noRecord n piecesMax → _≡_ {A = Job} (record { width = job .width; height = job .height; count = job .count + 1; pieces = set kept n new }) (withAdded job new)
+  pub added-done : (new : Record) {n : ℕ} {kept : List Record} → job .count < piecesMax → n ≡ job .count → kept ≡ filledRow (from n) noRecord n piecesMax
+      → _≡_ {A = Job} (record { width = job .width; height = job .height; count = job .count + 1; pieces = set kept n new }) (withAdded job new)
   unfolding withAdded
   added-done new {n} {kept} room e f =
       let pieces : List Piece = piecesOf job in
       let after : ℕ → Record = λ k. recordOf (getD (added pieces (pieceOf new)) k noPiece) in
       let long : length pieces ≡ job .count = pieces-length job in
-      let same : filled (from n) noRecord n piecesMax ≡ filled after noRecord n piecesMax =
+      let same : filledRow (from n) noRecord n piecesMax ≡ filledRow after noRecord n piecesMax =
       filled-same (from n) after noRecord n piecesMax
       (λ k l. kept-as-is n k l (omega arith) ∙ ap recordOf (sym (added-at pieces (pieceOf new) k (omega arith)))) in
-      let last : new ≡ after n = ap recordOf (sym (ap (λ (i : ℕ). getD (added pieces (pieceOf new)) i noPiece) (e ∙ sym long) ∙ added-last pieces (pieceOf new))) in
-      let rows : set kept n new ≡ filled after noRecord (n + 1) piecesMax = filled-more after noRecord n piecesMax (omega arith) (f ∙ same) last in
+      let last : new ≡ after n =
+      ap recordOf (sym (ap (λ (i : ℕ). getD (added pieces (pieceOf new)) i noPiece) (e ∙ sym long) ∙ added-last pieces (pieceOf new))) in
+      let rows : set kept n new ≡ filledRow after noRecord (n + 1) piecesMax = filled-more after noRecord n piecesMax (omega arith) (f ∙ same) last in
       is-jobOf (job .width) (job .height) (job .count + 1) (added pieces (pieceOf new)) (set kept n new) after
       (omega (arith, added-length pieces (pieceOf new)))
-      (rows ∙ ap (λ (i : ℕ). filled after noRecord i piecesMax) (omega arith))
+      (rows ∙ ap (λ (i : ℕ). filledRow after noRecord i piecesMax) (omega arith))
       (λ k l. refl)
 
-  pub corrected-done : (number : ℕ) (new : Record) {n : ℕ} {kept : List Record} → job .count ≤ piecesMax → 1 ≤ number → number ≤ job .count → n ≡ job .count → kept ≡ filled (from piecesMax) noRecord n piecesMax → _≡_ {A = Job} (record { width = job .width; height = job .height; count = job .count; pieces = set kept (number - 1) new }) (withCorrected job number new)
+  pub corrected-done : (number : ℕ) (new : Record) {n : ℕ} {kept : List Record} → job .count ≤ piecesMax → 1 ≤ number → number ≤ job .count
+      → n ≡ job .count → kept ≡ filledRow (from piecesMax) noRecord n piecesMax
+      → _≡_ {A = Job} (record { width = job .width; height = job .height; count = job .count; pieces = set kept (number - 1) new })
+      (withCorrected job number new)
   unfolding withCorrected
   corrected-done number new {n} {kept} room first last e f =
       let pieces : List Piece = piecesOf job in
       let after : ℕ → Record = λ k. recordOf (getD (corrected pieces number (pieceOf new)) k noPiece) in
       let long : length pieces ≡ job .count = pieces-length job in
-      let rows : set kept (number - 1) new ≡ filled after noRecord n piecesMax =
+      let rows : set kept (number - 1) new ≡ filledRow after noRecord n piecesMax =
       ap (λ (l : List Record). set l (number - 1) new) f
       ∙ filled-set (from piecesMax) after noRecord (number - 1) n piecesMax new (omega arith) (omega arith)
       (ap recordOf (sym (corrected-same pieces number (pieceOf new) (omega arith))))
@@ -132,7 +137,9 @@ module _ (job : Job) where
       (filled-end after noRecord piecesMax rows e)
       (λ k l. refl)
 
-  pub removed-done : (number : ℕ) {n : ℕ} {kept : List Record} → job .count ≤ piecesMax → 1 ≤ number → number ≤ job .count → n ≡ job .count - 1 → kept ≡ filled (from (number - 1)) noRecord n piecesMax → _≡_ {A = Job} (record { width = job .width; height = job .height; count = job .count - 1; pieces = kept }) (withRemoved job number)
+  pub removed-done : (number : ℕ) {n : ℕ} {kept : List Record} → job .count ≤ piecesMax → 1 ≤ number → number ≤ job .count
+      → n ≡ job .count - 1 → kept ≡ filledRow (from (number - 1)) noRecord n piecesMax
+      → _≡_ {A = Job} (record { width = job .width; height = job .height; count = job .count - 1; pieces = kept }) (withRemoved job number)
   unfolding withRemoved
   removed-done number {n} {kept} room first last e f =
       let pieces : List Piece = piecesOf job in
@@ -145,7 +152,9 @@ module _ (job : Job) where
       record-at job (movedFrom (number - 1) k) inside ∙ ap recordOf (sym (removed-at pieces number first below k)))
 
 -- One more record kept.
-pub kept-more : (records : List Record) (gap k : ℕ) {kept : List Record} {place : ℕ} → k < piecesMax → kept ≡ filled (λ i. getD records (movedFrom gap i) noRecord) noRecord k piecesMax → place ≡ movedFrom gap k → set kept k (getD records place noRecord) ≡ filled (λ i. getD records (movedFrom gap i) noRecord) noRecord (k + 1) piecesMax
+pub kept-more : (records : List Record) (gap k : ℕ) {kept : List Record} {place : ℕ} → k < piecesMax
+    → kept ≡ filledRow (λ i. getD records (movedFrom gap i) noRecord) noRecord k piecesMax → place ≡ movedFrom gap k
+    → set kept k (getD records place noRecord) ≡ filledRow (λ i. getD records (movedFrom gap i) noRecord) noRecord (k + 1) piecesMax
 kept-more records gap k h e f =
     filled-more (λ i. getD records (movedFrom gap i) noRecord) noRecord k piecesMax h e (ap (λ (i : ℕ). getD records i noRecord) f)
 
@@ -155,12 +164,15 @@ unfolding withAdded
 pieces-added job new h =
     pieces-jobOf (job .width) (job .height) (added (piecesOf job) (pieceOf new)) (omega (arith, added-length (piecesOf job) (pieceOf new), pieces-length job))
 
-pub pieces-corrected : (job : Job) (number : ℕ) (new : Record) → job .count ≤ piecesMax → piecesOf (withCorrected job number new) ≡ corrected (piecesOf job) number (pieceOf new)
+pub pieces-corrected : (job : Job) (number : ℕ) (new : Record) → job .count ≤ piecesMax
+    → piecesOf (withCorrected job number new) ≡ corrected (piecesOf job) number (pieceOf new)
 unfolding withCorrected
 pieces-corrected job number new h =
-    pieces-jobOf (job .width) (job .height) (corrected (piecesOf job) number (pieceOf new)) (omega (arith, corrected-length (piecesOf job) number (pieceOf new), pieces-length job))
+    pieces-jobOf (job .width) (job .height) (corrected (piecesOf job) number (pieceOf new))
+    (omega (arith, corrected-length (piecesOf job) number (pieceOf new), pieces-length job))
 
-pub pieces-removed : (job : Job) (number : ℕ) → job .count ≤ piecesMax → 1 ≤ number → number ≤ job .count → piecesOf (withRemoved job number) ≡ removed (piecesOf job) number
+pub pieces-removed : (job : Job) (number : ℕ) → job .count ≤ piecesMax → 1 ≤ number → number ≤ job .count
+    → piecesOf (withRemoved job number) ≡ removed (piecesOf job) number
 unfolding withRemoved
 pieces-removed job number h first last =
     let long : length (piecesOf job) ≡ job .count = pieces-length job in
@@ -169,7 +181,8 @@ pieces-removed job number h first last =
 
 -- The changed job is in range where the job and the new piece are.
 module _ (job : Job) (range : JobInRange job) where
-  sides : (pieces : List Piece) → length pieces ≤ piecesMax → ((k : ℕ) → k < length pieces → PieceIn (getD pieces k noPiece)) → JobInRange (jobOf (job .width) (job .height) pieces)
+  sides : (pieces : List Piece) → length pieces ≤ piecesMax → ((k : ℕ) → k < length pieces → PieceIn (getD pieces k noPiece))
+      → JobInRange (jobOf (job .width) (job .height) pieces)
   sides pieces most each =
       jobOf-in-range (job .width) (job .height) pieces
       (record { least = range .widthLeast; most = range .widthMost })
@@ -183,32 +196,32 @@ module _ (job : Job) (range : JobInRange job) where
   pub added-in-range : (new : Record) → job .count < piecesMax → RecordIn new → JobInRange (withAdded job new)
   unfolding withAdded
   added-in-range new room good =
-      sides (added pieces (pieceOf new)) (omega (arith, long, pieces-length job)) (λ k l. either k (last-or-below (omega (arith, long))))
+      sides more (omega (arith, long, pieces-length job)) (λ k l. either k (last-or-below (omega (arith, long))))
     where
-      pieces : List Piece
-      pieces = piecesOf job
+      more : List Piece
+      more = added (piecesOf job) (pieceOf new)
 
-      long : length (added (piecesOf job) (pieceOf new)) ≡ length (piecesOf job) + 1
+      long : length more ≡ length (piecesOf job) + 1
       long = added-length (piecesOf job) (pieceOf new)
 
-      either : (k : ℕ) → (k ≡ length (piecesOf job)) ⊎ (k < length (piecesOf job)) → PieceIn (getD (added (piecesOf job) (pieceOf new)) k noPiece)
-      either k (inl e) = subst PieceIn (sym (ap (λ (i : ℕ). getD (added (piecesOf job) (pieceOf new)) i noPiece) e ∙ added-last (piecesOf job) (pieceOf new))) good
+      either : (k : ℕ) → (k ≡ length (piecesOf job)) ⊎ (k < length (piecesOf job)) → PieceIn (getD more k noPiece)
+      either k (inl e) = subst PieceIn (sym (ap (λ (i : ℕ). getD more i noPiece) e ∙ added-last (piecesOf job) (pieceOf new))) good
       either k (inr l) = subst PieceIn (sym (added-at (piecesOf job) (pieceOf new) k l)) (old k l)
 
   pub corrected-in-range : (number : ℕ) (new : Record) → RecordIn new → JobInRange (withCorrected job number new)
   unfolding withCorrected
   corrected-in-range number new good =
-      sides (corrected (piecesOf job) number (pieceOf new)) (omega (arith, long, pieces-length job, range .countMost))
-      (λ k l. either k (omega (arith, long)) (eq-or-not k (number - 1)))
+      sides other (omega (arith, long, pieces-length job, range .countMost)) (λ k l. either k (omega (arith, long)) (eq-or-not k (number - 1)))
     where
-      long : length (corrected (piecesOf job) number (pieceOf new)) ≡ length (piecesOf job)
+      other : List Piece
+      other = corrected (piecesOf job) number (pieceOf new)
+
+      long : length other ≡ length (piecesOf job)
       long = corrected-length (piecesOf job) number (pieceOf new)
 
-      either : (k : ℕ) → k < length (piecesOf job) → (k ≡ number - 1) ⊎ (k ≡ number - 1 → ⊥) → PieceIn (getD (corrected (piecesOf job) number (pieceOf new)) k noPiece)
+      either : (k : ℕ) → k < length (piecesOf job) → (k ≡ number - 1) ⊎ (k ≡ number - 1 → ⊥) → PieceIn (getD other k noPiece)
       either k l (inl e) =
-          subst PieceIn
-          (sym (ap (λ (i : ℕ). getD (corrected (piecesOf job) number (pieceOf new)) i noPiece) e ∙ corrected-same (piecesOf job) number (pieceOf new) (omega arith)))
-          good
+          subst PieceIn (sym (ap (λ (i : ℕ). getD other i noPiece) e ∙ corrected-same (piecesOf job) number (pieceOf new) (omega arith))) good
       either k l (inr n) = subst PieceIn (sym (corrected-other (piecesOf job) number (pieceOf new) k n)) (old k l)
 
   pub removed-in-range : (number : ℕ) → 1 ≤ number → number ≤ job .count → JobInRange (withRemoved job number)

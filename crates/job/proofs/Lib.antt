@@ -2,5 +2,4 @@
 pub mod Pieces
 pub mod Range
 pub mod Changed
-pub mod Rows
 pub mod Blocks

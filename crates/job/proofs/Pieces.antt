@@ -6,7 +6,7 @@ use mathlib.Core.List.{List}
 use native.Mathlib.Omega.{arith}
 use lib.ListN.{length, getD, List·getD-eq-default}
 use Rattle.laws.specs.ByIndex.{byIndex}
-use Rattle.laws.specs.Inner.{filled}
+use Rattle.laws.specs.Inner.{filledRow}
 use Rattle.laws.proofs.Order.{le-or-lt}
 use Rattle.laws.proofs.ByIndex.{byIndex-length, byIndex-at, is-byIndex}
 use Rattle.laws.proofs.Filled.{filled-whole}
@@ -43,12 +43,15 @@ jobOf-tidy width height pieces h = record { zeros = ap (jobOf width height) (sym
 pub jobOf-zeros : (width height : ℕ) (pieces : List Piece) (k : ℕ) → length pieces ≤ k → getD (jobOf width height pieces .pieces) k noRecord ≡ noRecord
 unfolding jobOf
 jobOf-zeros width height pieces k h =
-    ⊎-elim (λ g. List·getD-eq-default (byIndex (λ i. recordOf (getD pieces i noPiece)) piecesMax) noRecord (omega (arith, byIndex-length (λ i. recordOf (getD pieces i noPiece)) piecesMax)))
-    (λ g. byIndex-at (λ i. recordOf (getD pieces i noPiece)) piecesMax k noRecord g ∙ ap recordOf (List·getD-eq-default pieces noPiece h))
+    let f : ℕ → Record = λ i. recordOf (getD pieces i noPiece) in
+    ⊎-elim (λ g. List·getD-eq-default (byIndex f piecesMax) noRecord (omega (arith, byIndex-length f piecesMax)))
+    (λ g. byIndex-at f piecesMax k noRecord g ∙ ap recordOf (List·getD-eq-default pieces noPiece h))
     (le-or-lt piecesMax k)
 
 -- A job with these sides and this count, whose first records are the pieces' and whose others are zeros, is that job.
-pub is-jobOf : (width height n : ℕ) (pieces : List Piece) (records : List Record) (f : ℕ → Record) → n ≡ length pieces → records ≡ filled f noRecord n piecesMax → ((k : ℕ) → k < n → f k ≡ recordOf (getD pieces k noPiece)) → _≡_ {A = Job} (record { width = width; height = height; count = n; pieces = records }) (jobOf width height pieces)
+pub is-jobOf : (width height n : ℕ) (pieces : List Piece) (records : List Record) (f : ℕ → Record) → n ≡ length pieces
+    → records ≡ filledRow f noRecord n piecesMax → ((k : ℕ) → k < n → f k ≡ recordOf (getD pieces k noPiece))
+    → _≡_ {A = Job} (record { width = width; height = height; count = n; pieces = records }) (jobOf width height pieces)
 unfolding jobOf
 is-jobOf width height n pieces records f e g h =
     let rows : records ≡ byIndex (λ k. recordOf (getD pieces k noPiece)) piecesMax =

@@ -13,7 +13,7 @@ use Rattle.cutting.proofs.Listed.{lays-listed, listed-lays}
 use Rattle.cutting.specs.Piece.{Piece, noPiece, Lays, PieceInRange, InRange}
 use Rattle.job.specs.declared.Piece.{Piece as Record}
 use Rattle.job.specs.declared.Job.{Job}
-use Rattle.job.specs.Job.{pieceOf, noRecord, piecesOf, jobOf, zeroJob}
+use Rattle.job.specs.Job.{pieceOf, noRecord, piecesOf, jobOf, zeroJob, layOf}
 use Rattle.job.specs.Range.{JobInRange}
 use Rattle.job.specs.Inner.{within, pieceInRange, piecesInRange, jobInRange}
 use Rattle.job.proofs.Pieces.{pieces-length, pieces-at, pieces-jobOf}
@@ -32,7 +32,7 @@ pub piece-says : (r : Record) → Says (pieceInRange r) (RecordIn r)
 unfolding pieceInRange
 piece-says r =
     says-iff (
-      λ h. record { widthLeast = h .0 .0; widthMost = h .0 .1; heightLeast = h .1 .0 .0; heightMost = h .1 .0 .1; valueLeast = h .1 .1 .0; valueMost = h .1 .1 .1 },
+      λ h. omega arith,
       λ i. ((i .widthLeast, i .widthMost), ((i .heightLeast, i .heightMost), (i .valueLeast, i .valueMost))),
     )
     (says-and (within-says (r .width) sizeMax) (says-and (within-says (r .height) sizeMax) (within-says (r .value) valueMax)))
@@ -51,7 +51,7 @@ module _ (job : Job) where
   abbrev recordAt : ℕ → Record
   recordAt k = getD (job .pieces) k noRecord
 
-  pub pieces-say : Says (piecesInRange job) (InRange (Lays (piecesOf job)))
+  pub pieces-say : Says (piecesInRange job) (InRange (layOf job))
   unfolding piecesInRange
   pieces-say =
       says-iff (
@@ -65,7 +65,14 @@ module _ (job : Job) where
   unfolding jobInRange
   job-says =
       says-iff (
-        λ h. record { widthLeast = h .0 .0; widthMost = h .0 .1; heightLeast = h .1 .0 .0; heightMost = h .1 .0 .1; countMost = h .1 .1 .0; pieces = h .1 .1 .1 },
+        λ h. record {
+          widthLeast = h .0 .0;
+          widthMost = h .0 .1;
+          heightLeast = h .1 .0 .0;
+          heightMost = h .1 .0 .1;
+          countMost = h .1 .1 .0;
+          pieces = h .1 .1 .1;
+        },
         λ i. ((i .widthLeast, i .widthMost), ((i .heightLeast, i .heightMost), (i .countMost, i .pieces))),
       )
       (says-and (within-says (job .width) sideMax) (says-and (within-says (job .height) sideMax) (says-and (says-le (job .count) piecesMax) pieces-say)))

@@ -4,19 +4,12 @@ use mathlib.Core.Path.{_≡_}
 use mathlib.Core.List.{List, [], _∷_, _++_}
 use lib.ListN.{length, getD}
 use Rattle.laws.specs.ByIndex.{byIndex}
+use Rattle.fields.specs.Format.{headBytes, pieceBytes, secondNumber, thirdNumber}
 use Rattle.fields.specs.Number.{bytes2, number2Of}
 use Rattle.cutting.specs.Limits.{piecesMax}
 use Rattle.cutting.specs.Piece.{Piece, noPiece}
 use Rattle.job.specs.declared.Job.{Job}
 use Rattle.job.specs.Job.{piecesOf, jobOf}
-
--- "width, height, n (two bytes each)"
-abbrev pub headBytes : ℕ
-headBytes = 6
-
--- "p, q, v (two bytes each)"
-abbrev pub pieceBytes : ℕ
-pieceBytes = 6
 
 -- A block of n pieces has 6 + 6n bytes.
 abbrev pub blockLength : ℕ → ℕ
@@ -42,17 +35,17 @@ blockOf job = block (job .width) (job .height) (piecesOf job)
 
 -- What is read.
 abbrev pub countIn : List ℕ → ℕ
-countIn s = number2Of s 4
+countIn s = number2Of s thirdNumber
 
 -- The piece that stands at a place.
 unfoldable pub pieceFrom : List ℕ → ℕ → Piece
-pieceFrom s at = record { width = number2Of s at; height = number2Of s (at + 2); value = number2Of s (at + 4) }
+pieceFrom s at = record { width = number2Of s at; height = number2Of s (at + secondNumber); value = number2Of s (at + thirdNumber) }
 
 abbrev pub pieceIn : List ℕ → ℕ → Piece
 pieceIn s k = pieceFrom s (blockLength k)
 
 unfoldable pub jobIn : List ℕ → Job
-jobIn s = jobOf (number2Of s 0) (number2Of s 2) (byIndex (pieceIn s) (countIn s))
+jobIn s = jobOf (number2Of s 0) (number2Of s secondNumber) (byIndex (pieceIn s) (countIn s))
 
 -- It isn't "shorter than 6 bytes", its length is 6 + 6n, and n isn't above 64.
 pub record BlockShape (s : List ℕ) : Type 0 where

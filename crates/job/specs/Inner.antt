@@ -4,17 +4,14 @@ use mathlib.Core.List.{List}
 use mathlib.Core.Bool.{Bool, _&&_, cond, true, false}
 use lib.ListN.{length, getD}
 use lib.Dec.{leb, ltb, eqb}
-use Rattle.laws.specs.ByIndex.{byIndex}
-use Rattle.cutting.specs.Piece.{Piece, noPiece}
 use Rattle.cutting.specs.Limits.{piecesMax, sideMax, sizeMax, valueMax}
 use Rattle.laws.specs.Inner.{allBelow}
 use Rattle.job.specs.declared.Piece.{Piece as Record}
 use Rattle.job.specs.declared.Job.{Job}
 use Rattle.job.specs.Job.{noRecord, zeroJob}
-use Rattle.job.specs.declared.Measure.{Measure}
-use Rattle.job.specs.declared.Measure.the-variants.{Width, Height, Value}
 use Rattle.job.specs.declared.Blocked.{Blocked}
-use Rattle.job.specs.Block.{headBytes, blockLength, countIn, jobIn}
+use Rattle.job.specs.Block.{blockLength, countIn, jobIn}
+use Rattle.fields.specs.Format.{headBytes}
 
 -- "a side, n or a piece of the job is outside its range", as tests. A quantity is in the range 1 to most.
 abbrev pub within : ℕ → ℕ → Bool
@@ -32,17 +29,6 @@ jobInRange job = within (job .width) sideMax && (within (job .height) sideMax &&
 -- Where what stands at index k came from, once the record at index gap is left out. "later pieces move down by one number"
 unfoldable pub movedFrom : ℕ → ℕ → ℕ
 movedFrom gap k = cond (ltb k gap) k (k + 1)
-
--- The pieces' widths, heights or values as a row, for the inner loops.
-
-abbrev pub measured : Measure → Piece → ℕ
-measured Width p = p .width
-measured Height p = p .height
-measured Value p = p .value
-
--- One number a piece, and zeros past the last one.
-unfoldable pub rowOf : (Piece → ℕ) → List Piece → List ℕ
-rowOf number pieces = byIndex (λ k. number (getD pieces k noPiece)) piecesMax
 
 -- `BlockShape` as a test.
 unfoldable pub blockShape : List ℕ → Bool

@@ -4,7 +4,7 @@ use mathlib.Core.Path.{_≡_}
 use mathlib.Core.List.{List, []}
 use lib.ListN.{length, getD}
 use Rattle.laws.specs.ByIndex.{byIndex}
-use Rattle.cutting.specs.Piece.{Piece, noPiece}
+use Rattle.cutting.specs.Piece.{Piece, noPiece, Lay, Lays}
 use Rattle.cutting.specs.Limits.{piecesMax}
 use Rattle.job.specs.declared.Piece.{Piece as Record}
 use Rattle.job.specs.declared.Job.{Job}
@@ -23,6 +23,10 @@ noRecord = recordOf noPiece
 -- The pieces of a job, its first n records. "Records past n in a job aren't read"
 unfoldable pub piecesOf : Job → List Piece
 piecesOf job = byIndex (λ k. pieceOf (getD (job .pieces) k noRecord)) (job .count)
+
+-- What may lie on a job's sheet.
+abbrev pub layOf : Job → Lay
+layOf job = Lays (piecesOf job)
 
 -- The job with these sides and pieces, at most 64. "an accepted open, add, correct or remove returns them as zeros"
 unfoldable pub jobOf : ℕ → ℕ → List Piece → Job

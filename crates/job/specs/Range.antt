@@ -1,9 +1,9 @@
 -- "a side, n or a piece of the job is outside its range"
 use Prim.Native.Nat.{_≤_}
 use Rattle.cutting.specs.Limits.{sideMax, piecesMax}
-use Rattle.cutting.specs.Piece.{Lays, InRange}
+use Rattle.cutting.specs.Piece.{InRange}
 use Rattle.job.specs.declared.Job.{Job}
-use Rattle.job.specs.Job.{piecesOf}
+use Rattle.job.specs.Job.{layOf}
 
 -- The job is in range: its sides, n, and its pieces.
 pub record JobInRange (job : Job) : Type 0 where
@@ -14,4 +14,4 @@ pub record JobInRange (job : Job) : Type 0 where
   pub heightMost : job .height ≤ sideMax
   -- "pieces n: 0 to 64"
   pub countMost : job .count ≤ piecesMax
-  pub pieces : InRange (Lays (piecesOf job))
+  pub pieces : InRange (layOf job)

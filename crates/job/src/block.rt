@@ -1,29 +1,24 @@
 // The job block: width, height, n, then width, height and value of every piece, two bytes each.
 ghost use mathlib.Core.Path.{_≡_};
-ghost use mathlib.Core.List.{_++_};
 ghost use Prim.Native.Nat.{_+_, _≤_};
-ghost use lib.ListN.{length, take};
+ghost use lib.ListN.{length};
 ghost use Rattle.laws.specs.Put.{put};
-ghost use Rattle.laws.specs.Inner.{filled};
+ghost use Rattle.laws.specs.Inner.{filledRow};
 ghost use Rattle.cutting.specs.Limits.{piecesMax};
 ghost use Rattle.job.specs.Job.{pieceOf, recordOf, noRecord, piecesOf};
-ghost use Rattle.job.specs.Block.{headBytes, pieceBytes, BlockShape, blockLength, countIn, pieceFrom, pieceIn, bytesOfPiece, bytesOfHead, bytesOfPieces, block, jobIn};
+ghost use Rattle.job.specs.Block.{BlockShape, blockLength, countIn, pieceFrom, pieceIn, bytesOfPiece, bytesOfHead, bytesOfPieces, block, jobIn};
+ghost use Rattle.fields.specs.Format.{headBytes, pieceBytes};
 ghost use Rattle.job.specs.Inner.{blockShape, fromBlock};
 use crate::Blocked;
 use crate::Job;
 use crate::Piece;
+use fields::cast::wide;
+use fields::format::HEAD_BYTES;
+use fields::format::PIECE_BYTES;
+use fields::format::SECOND_NUMBER;
+use fields::format::THIRD_NUMBER;
 use fields::number2;
 use fields::put2;
-
-const HEAD_BYTES: usize = 6;
-
-const PIECE_BYTES: usize = 6;
-
-fn wide(n: u16) -> usize
-    ensures { λ r. ⌜ r ≡ n ⌝ }
-{
-    n as usize
-}
 
 // The length of a block of count pieces, which is where the next piece would stand.
 pub fn block_length(count: usize) -> usize
@@ -38,7 +33,7 @@ fn count_in(s: &[u8]) -> u16
     requires { ⌜ headBytes ≤ length (now s) ⌝ }
     ensures { λ r. ⌜ r ≡ countIn (now (s .entry)) ⌝ }
 {
-    number2(s, 4)
+    number2(s, THIRD_NUMBER)
 }
 
 // Is it 6 bytes long at least, with n at most 64 and the length 6 + 6n?
@@ -61,8 +56,8 @@ fn piece_from(s: &[u8], at: usize) -> Piece
 {
     Piece {
         width: number2(s, at),
-        height: number2(s, at + 2),
-        value: number2(s, at + 4),
+        height: number2(s, at + SECOND_NUMBER),
+        value: number2(s, at + THIRD_NUMBER),
     }
 }
 
@@ -70,7 +65,7 @@ fn piece_from(s: &[u8], at: usize) -> Piece
 fn records_in(s: &[u8], count: usize) -> [Piece; 64]
     requires { ⌜ count ≤ piecesMax ⌝ }
     requires { ⌜ blockLength count ≤ length (now s) ⌝ }
-    ensures { λ r. ⌜ r ≡ filled (λ k. recordOf (pieceIn (now (s .entry)) k)) noRecord count piecesMax ⌝ }
+    ensures { λ r. ⌜ r ≡ filledRow (λ k. recordOf (pieceIn (now (s .entry)) k)) noRecord count piecesMax ⌝ }
 {
     let mut records = [Piece::zeros(); 64];
     for k in 0..count {
@@ -87,7 +82,7 @@ fn job_in(s: &[u8]) -> Job
     let pieces = records_in(s, wide(count));
     Job {
         width: number2(s, 0),
-        height: number2(s, 2),
+        height: number2(s, SECOND_NUMBER),
         count: count,
         pieces: pieces,
     }
@@ -108,13 +103,13 @@ pub fn from_block(s: &[u8]) -> Blocked
     Blocked { ok: true, job: job }
 }
 
-fn put_head(o: &mut [u8], width: u16, height: u16, count: u16)
+fn put_block_head(o: &mut [u8], width: u16, height: u16, count: u16)
     requires { ⌜ headBytes ≤ length (now o) ⌝ }
     ensures { λ _. ⌜ now (o .exit) ≡ put (now (o .entry)) 0 (bytesOfHead width height count) ⌝ }
 {
     put2(o, 0, width);
-    put2(o, 2, height);
-    put2(o, 4, count);
+    put2(o, SECOND_NUMBER, height);
+    put2(o, THIRD_NUMBER, count);
 }
 
 fn put_piece(o: &mut [u8], at: usize, piece: Piece)
@@ -122,8 +117,8 @@ fn put_piece(o: &mut [u8], at: usize, piece: Piece)
     ensures { λ _. ⌜ now (o .exit) ≡ put (now (o .entry)) at (bytesOfPiece (pieceOf piece)) ⌝ }
 {
     put2(o, at, piece.width);
-    put2(o, at + 2, piece.height);
-    put2(o, at + 4, piece.value);
+    put2(o, at + SECOND_NUMBER, piece.height);
+    put2(o, at + THIRD_NUMBER, piece.value);
 }
 
 // Writes the pieces of a job behind the head of its block.
@@ -145,6 +140,6 @@ pub fn put_block(o: &mut [u8], width: u16, height: u16, job: Job)
     requires { ⌜ blockLength (job .count) ≤ length (now o) ⌝ }
     ensures { λ _. ⌜ now (o .exit) ≡ put (now (o .entry)) 0 (block width height (piecesOf job)) ⌝ }
 {
-    put_head(o, width, height, job.count);
+    put_block_head(o, width, height, job.count);
     put_pieces(o, job);
 }

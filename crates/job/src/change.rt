@@ -2,7 +2,7 @@
 ghost use mathlib.Core.Path.{_≡_};
 ghost use Prim.Native.Nat.{ℕ, _≤_, _<_};
 ghost use lib.ListN.{getD};
-ghost use Rattle.laws.specs.Inner.{filled};
+ghost use Rattle.laws.specs.Inner.{filledRow};
 ghost use Rattle.cutting.specs.Limits.{piecesMax};
 ghost use Rattle.job.specs.Job.{noRecord};
 ghost use Rattle.job.specs.Change.{withAdded, withCorrected, withRemoved};
@@ -25,7 +25,7 @@ fn moved_from(gap: usize, k: usize) -> usize
 fn kept(records: [Piece; 64], gap: usize, count: usize) -> [Piece; 64]
     requires { ⌜ count ≤ piecesMax ⌝ }
     requires { ⌜ ((k : ℕ) → k < count → movedFrom gap k < piecesMax) ⌝ }
-    ensures { λ r. ⌜ r ≡ filled (λ k. getD records (movedFrom gap k) noRecord) noRecord count piecesMax ⌝ }
+    ensures { λ r. ⌜ r ≡ filledRow (λ k. getD records (movedFrom gap k) noRecord) noRecord count piecesMax ⌝ }
 {
     let mut kept = [Piece::zeros(); 64];
     for k in 0..count {

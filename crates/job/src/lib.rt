@@ -1,5 +1,5 @@
 // The job by value: one stock rectangle and up to 64 pieces, with their limits.
-// change.rt: a piece more, changed, less; row.rt: rows for the inner loops; block.rt: the job block.
+// change.rt: a piece more, changed, less; block.rt: the job block.
 ghost use mathlib.Core.Path.{_≡_};
 ghost use mathlib.Core.List.{[]};
 ghost use Prim.Native.Nat.{_≤_};
@@ -9,7 +9,6 @@ ghost use Rattle.job.specs.Inner.{within, pieceInRange, piecesInRange, j
 
 pub mod block;
 mod change;
-mod row;
 
 #[repr(C)]
 pub struct Piece {
@@ -30,13 +29,6 @@ pub struct Job {
 pub struct Blocked {
     pub ok: bool,
     pub job: Job,
-}
-
-// Which number of a piece.
-pub enum Measure {
-    Width,
-    Height,
-    Value,
 }
 
 // Is n in the range 1 to most?

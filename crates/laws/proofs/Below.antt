@@ -40,7 +40,8 @@ unfolding bestBelow
 bestBelow-attained f zero = inl refl
 bestBelow-attained f (suc n) = either (le-or-lt (f n) (bestBelow f n)) (bestBelow-attained f n)
   where
-    either : (f n ≤ bestBelow f n) ⊎ (bestBelow f n < f n) → (bestBelow f n ≡ 0) ⊎ ((k : ℕ) × (k < n) × (bestBelow f n ≡ f k)) → (max (bestBelow f n) (f n) ≡ 0) ⊎ ((k : ℕ) × (k < suc n) × (max (bestBelow f n) (f n) ≡ f k))
+    either : (f n ≤ bestBelow f n) ⊎ (bestBelow f n < f n) → (bestBelow f n ≡ 0) ⊎ ((k : ℕ) × (k < n) × (bestBelow f n ≡ f k))
+        → (max (bestBelow f n) (f n) ≡ 0) ⊎ ((k : ℕ) × (k < suc n) × (max (bestBelow f n) (f n) ≡ f k))
     either (inr h) r = inr (n, omega arith, omega arith)
     either (inl h) (inl e) = inl (omega arith)
     either (inl h) (inr t) = inr (t .0, omega (arith, t .1), omega (arith, t .2))

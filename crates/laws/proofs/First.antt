@@ -1,12 +1,13 @@
--- The laws of firstBelow: what it finds, that there is none, one more, and that only the test counts.
+-- The laws of firstBelow and firstNumber: what they find, that there is none, one more, and that only the test counts.
 use Prim.Native.Nat.{ℕ, zero, suc, _+_, _≤_, _<_}
 use mathlib.Core.Bool.{Bool, true, false}
 use mathlib.Core.Path.{_≡_, refl, sym, ap, _∙_}
 use mathlib.Core.Logic.{_⊎_, ⊎-elim}
 use native.Mathlib.Omega.{arith}
-use Rattle.laws.specs.Inner.{firstBelow, First}
+use Rattle.laws.specs.Inner.{firstBelow, firstNumber, First}
 use Rattle.laws.proofs.Order.{last-or-below}
-use Rattle.laws.proofs.Says.{true≢false}
+use Rattle.laws.proofs.Says.{true≢false, says-lt}
+use Rattle.laws.proofs.Choice.{chosen, not-chosen, either-way}
 
 -- The test's answer at 0 decides whether the search goes on.
 abbrev begun : Bool → ℕ → ℕ
@@ -27,7 +28,8 @@ unfolding firstBelow
 first-before f zero j h = absurd (omega arith)
 first-before f (suc n) j h = go (f zero) refl j h (first-before (λ k. f (suc k)) n)
   where
-    go : (b : Bool) → f zero ≡ b → (j : ℕ) → j < begun b (firstBelow (λ k. f (suc k)) n) → ((i : ℕ) → i < firstBelow (λ k. f (suc k)) n → f (suc i) ≡ false) → f j ≡ false
+    go : (b : Bool) → f zero ≡ b → (j : ℕ) → j < begun b (firstBelow (λ k. f (suc k)) n) → ((i : ℕ) → i < firstBelow (λ k. f (suc k)) n → f (suc i) ≡ false)
+        → f j ≡ false
     go true e j h r = absurd (omega arith)
     go false e zero h r = e
     go false e (suc i) h r = r i (omega arith)
@@ -38,7 +40,8 @@ unfolding firstBelow
 first-passes f zero h = absurd (omega arith)
 first-passes f (suc n) h = go (f zero) refl h (first-passes (λ k. f (suc k)) n)
   where
-    go : (b : Bool) → f zero ≡ b → begun b (firstBelow (λ k. f (suc k)) n) < suc n → (firstBelow (λ k. f (suc k)) n < n → f (suc (firstBelow (λ k. f (suc k)) n)) ≡ true) → f (begun b (firstBelow (λ k. f (suc k)) n)) ≡ true
+    go : (b : Bool) → f zero ≡ b → begun b (firstBelow (λ k. f (suc k)) n) < suc n
+        → (firstBelow (λ k. f (suc k)) n < n → f (suc (firstBelow (λ k. f (suc k)) n)) ≡ true) → f (begun b (firstBelow (λ k. f (suc k)) n)) ≡ true
     go true e h r = e
     go false e h r = r (omega arith)
 
@@ -76,8 +79,43 @@ unfolding firstBelow
 first-same f g zero h = refl
 first-same f g (suc n) h = go (f zero) (g zero) (h zero (omega arith)) (first-same (λ k. f (suc k)) (λ k. g (suc k)) n (λ k l. h (suc k) (omega arith)))
   where
-    go : (b d : Bool) → b ≡ d → firstBelow (λ k. f (suc k)) n ≡ firstBelow (λ k. g (suc k)) n → begun b (firstBelow (λ k. f (suc k)) n) ≡ begun d (firstBelow (λ k. g (suc k)) n)
+    go : (b d : Bool) → b ≡ d → firstBelow (λ k. f (suc k)) n ≡ firstBelow (λ k. g (suc k)) n
+        → begun b (firstBelow (λ k. f (suc k)) n) ≡ begun d (firstBelow (λ k. g (suc k)) n)
     go true true e r = refl
     go false false e r = ap suc r
     go true false e r = absurd (true≢false e)
     go false true e r = absurd (true≢false (sym e))
+
+-- By number: 0 is the answer exactly where none passes.
+pub number-none : (f : ℕ → Bool) (n : ℕ) → firstBelow f n ≡ n → firstNumber f n ≡ 0
+unfolding firstNumber
+number-none f n e = not-chosen (says-lt (firstBelow f n) n) _ _ (λ h. omega arith)
+
+pub number-first : (f : ℕ → Bool) (n : ℕ) → firstBelow f n < n → firstNumber f n ≡ suc (firstBelow f n)
+unfolding firstNumber
+number-first f n h = chosen (says-lt (firstBelow f n) n) _ _ h
+
+pub number-passed : (f : ℕ → Bool) (n : ℕ) → firstNumber f n ≡ 0 → firstBelow f n ≡ n
+number-passed f n e = omega (arith, first-within f n, past)
+  where
+    past : firstBelow f n < n → ⊥
+    past h = omega (arith, number-first f n h)
+
+pub number-most : (f : ℕ → Bool) (n : ℕ) → firstNumber f n ≤ n
+unfolding firstNumber
+number-most f n = either-way (λ k. k ≤ n) (says-lt (firstBelow f n) n) _ _ (λ h. omega arith) (λ h. omega arith)
+
+-- As a loop goes, whose test r is f k: none of the first k numbers passes.
+pub number-start : (f : ℕ → Bool) → firstNumber f 0 ≡ 0
+number-start f = number-none f 0 (first-start f)
+
+pub number-more : (f : ℕ → Bool) (k : ℕ) {r : Bool} → firstNumber f k ≡ 0 → r ≡ f k → r ≡ false → firstNumber f (k + 1) ≡ 0
+number-more f k e h p = number-none f (k + 1) (first-more f k (number-passed f k e) (sym h ∙ p))
+
+pub number-stop : (f : ℕ → Bool) (k n : ℕ) {r : Bool} → firstNumber f k ≡ 0 → k < n → r ≡ f k → r ≡ true → k + 1 ≡ firstNumber f n
+number-stop f k n e l h p =
+    let first : firstBelow f n ≡ k = first-stop f k n (number-passed f k e) l (sym h ∙ p) in
+    omega (arith, number-first f n (omega arith))
+
+pub number-end : (f : ℕ → Bool) (k n : ℕ) → firstNumber f k ≡ 0 → k ≡ n → 0 ≡ firstNumber f n
+number-end f k n e q = sym (sym (ap (firstNumber f) q) ∙ e)

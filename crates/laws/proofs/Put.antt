@@ -53,5 +53,6 @@ module _ {ℓ} {A : Type ℓ} where
       ∙ (append-assoc (take at o) e _ ∙ ap (λ (m : List A). take at o ++ m) (sym (append-assoc e f _)))
 
   -- The same of what the code left behind it, step by step.
-  pub put-next : (o : List A) (at : ℕ) (e f : List A) {p q : List A} {next : ℕ} → at + length e ≤ length o → next ≡ at + length e → p ≡ put o at e → q ≡ put p next f → q ≡ put o at (e ++ f)
+  pub put-next : (o : List A) (at : ℕ) (e f : List A) {p q : List A} {next : ℕ} → at + length e ≤ length o → next ≡ at + length e → p ≡ put o at e
+      → q ≡ put p next f → q ≡ put o at (e ++ f)
   put-next o at e f h n i j = j ∙ (ap₂ (λ (l : List A) (k : ℕ). put l k f) i n ∙ put-put o at e f h)

@@ -48,3 +48,8 @@ says-or {b = false} s r =
 pub says-same : {b d : Bool} {P : Type 0} → Says b P → Says d P → b ≡ d
 says-same {b = true} s r = sym (r .found (s .means refl))
 says-same {b = false} s r = sym (says-no r (says-false s refl))
+
+-- Both tests hold where they hold together.
+pub both : (b d : Bool) → (b && d) ≡ true → (b ≡ true) × (d ≡ true)
+both true d e = (refl, e)
+both false d e = absurd (true≢false (sym e))

@@ -4,7 +4,7 @@ use mathlib.Core.Bool.{Bool, true, false, not, _&&_}
 use mathlib.Core.Path.{_≡_, refl, sym, ap, ap₂, _∙_}
 use lib.Dec.{leb}
 use borrow.Author.Tests.{le-leb, lt-leb}
-use Rattle.laws.specs.Inner.{allBelow}
+use Rattle.laws.specs.Inner.{Says, allBelow}
 use Rattle.laws.proofs.Says.{true≢false, says-no}
 use Rattle.laws.proofs.Below.{allBelow-more, allBelow-says}
 
@@ -29,6 +29,13 @@ le-no {m} {n} d h = ap (λ (a : Bool). a && d) (sym (lt-leb m n h))
 
 pub le-yes : {m n : ℕ} {d s : Bool} → m ≤ n → s ≡ d → s ≡ (leb m n && d)
 le-yes {m} {n} {d} h f = f ∙ ap (λ (a : Bool). a && d) (sym (le-leb m n h))
+
+-- The same where the test stands for a fact.
+pub fact-no : {b : Bool} {P : Type 0} → Says b P → (d : Bool) → (P → ⊥) → false ≡ (b && d)
+fact-no s d h = ap (λ (a : Bool). a && d) (sym (says-no s h))
+
+pub fact-yes : {b d r : Bool} {P : Type 0} → Says b P → P → r ≡ d → r ≡ (b && d)
+fact-yes {d = d} s h f = f ∙ ap (λ (a : Bool). a && d) (sym (s .found h))
 
 -- The same in a loop over the numbers below n.
 pub all-no : (f : ℕ → Bool) (n k : ℕ) {r : Bool} → k < n → r ≡ f k → not r ≡ true → false ≡ allBelow f n

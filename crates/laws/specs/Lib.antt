@@ -3,4 +3,5 @@ pub mod Largest
 pub mod Below
 pub mod ByIndex
 pub mod Put
+pub mod Refusal
 pub mod Inner

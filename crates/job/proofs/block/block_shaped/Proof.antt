@@ -33,7 +33,7 @@ returns-3 c =
     let count = past2 .before .count-in .ensures in
     let most : countIn (past2 .before .before .before .before .args .s .now) ≤ piecesMax = omega (arith, count) in
     le-yes (past2 .before .before .if1 .left)
-    (le-yes most (ap (eqb _) (c .block-length .ensures ∙ ap blockLength (c .before .wide .ensures ∙ count))))
+    (le-yes most (ap (eqb _) (c .block-length .ensures ∙ ap blockLength (c .before .wide .ensures .0 ∙ count))))
 
 pub block-shaped-spec : {M : Type 1} → statement M
 block-shaped-spec = tie.close (tie.spec returns (λ c κs. search needs) returns-2 (λ c κs. search needs) (λ c κs. search needs) returns-3)

@@ -11,7 +11,7 @@ returns : tie.Need-returns
 returns c =
     let counted = c .before .before .before in
     job-in-done _ (c .before .number2 .ensures) (c .number22 .ensures) (counted .before .count-in .ensures)
-    (filled-end _ noRecord piecesMax (c .before .before .records-in .ensures) (counted .wide .ensures))
+    (filled-end _ noRecord piecesMax (c .before .before .records-in .ensures) (counted .wide .ensures .0))
 
 pub job-in-spec : {M : Type 1} → statement M
 job-in-spec = tie.close (tie.spec (λ c κs. search needs) (λ c κs. search needs) (λ c κs. search needs) (λ c κs. search needs) (λ c κs. search needs) returns)

@@ -13,7 +13,7 @@ returns c =
     let second = c .before .before in
     let first = second .before .before .before .before in
     let job = first .before .before .before .args .job in
-    put-block-done _ _ _ (piecesOf job) (omega arith) (sym (pieces-length job)) (first .put-head .ensures) (second .put-pieces .ensures)
+    put-block-done _ _ _ (piecesOf job) (omega arith) (sym (pieces-length job)) (first .put-block-head .ensures) (second .put-pieces .ensures)
 
 pub put-block-spec : {M : Type 1} → statement M
 put-block-spec = tie.close (tie.spec (λ c κs. search needs) (λ c κs. search needs) (λ c. search needs) returns)

@@ -2,7 +2,8 @@
 use native.Mathlib.Omega.{arith}
 use borrow.Author.Needs.{needs}
 use Rattle.job.specs.Block.{bytesOfPiece}
-use Rattle.job.proofs.Blocks.{put-three}
+use Rattle.fields.specs.Number.{bytes2}
+use Rattle.fields.proofs.Number.{bytes2-length, put-three}
 use Rattle.job.proofs.block.put_piece.Statement.{statement}
 use Rattle.job.proofs.block.put_piece.Tie as tie
 
@@ -12,7 +13,7 @@ returns c =
     let third = c .before .before in
     let second = third .before .before .before .before in
     let first = second .before .before .before .before in
-    put-three _ _ _ _ _ (omega arith) (first .put2 .ensures) (second .put22 .ensures) (third .put23 .ensures)
+    put-three 2 bytes2 bytes2-length _ _ _ _ _ (omega arith) (first .put2 .ensures) (second .put22 .ensures) (third .put23 .ensures)
 
 pub put-piece-spec : {M : Type 1} → statement M
 put-piece-spec = tie.close (tie.spec (λ c κs. search needs) (λ c. search needs) (λ c κs. search needs) (λ c. search needs) (λ c κs. search needs) (λ c. search needs) returns)

@@ -6,14 +6,16 @@ use lib.ListN.{length, getD}
 use borrow.Author.Needs.{needs}
 use Rattle.laws.specs.Put.{put}
 use Rattle.laws.specs.ByIndex.{byIndex}
-use Rattle.job.specs.Block.{headBytes, blockLength, bytesOfPieces}
+use Rattle.job.specs.Block.{blockLength, bytesOfPieces}
+use Rattle.fields.specs.Format.{headBytes}
 use Rattle.job.specs.Job.{pieceOf, noRecord}
 use Rattle.job.proofs.Blocks.{put-pieces-none, put-piece-more, put-pieces-end}
 use Rattle.job.proofs.block.put_pieces.Statement.{statement}
 use Rattle.job.proofs.block.put_pieces.Tie as tie
 
 abbrev Inv-loop : tie.InvT-loop
-Inv-loop o₀ pieces count k₀ o k = (k ≤ count) × (length o ≡ length o₀) × (o ≡ put o₀ headBytes (bytesOfPieces (byIndex (λ i. pieceOf (getD pieces i noRecord)) k)))
+Inv-loop o₀ pieces count k₀ o k =
+    (k ≤ count) × (length o ≡ length o₀) × (o ≡ put o₀ headBytes (bytesOfPieces (byIndex (λ i. pieceOf (getD pieces i noRecord)) k)))
 
 abbrev μ-loop : tie.MeasureT-loop
 μ-loop o₀ pieces count k₀ o k = count - k
@@ -40,7 +42,7 @@ same-length c = c .before .loop .inv .1
 
 returns : tie.Need-returns Inv-loop μ-loop
 returns c =
-    let end : c .before .loop .k ≡ c .before .before .before .before .before .args .job .count = omega (arith, c .before .before .wide .ensures) in
+    let end : c .before .loop .k ≡ c .before .before .before .before .before .args .job .count = omega (arith, c .before .before .wide .ensures .0) in
     put-pieces-end _ (c .before .before .before .before .before .args .job) (c .before .loop .inv .2) end
 
 pub put-pieces-spec : {M : Type 1} → statement M

@@ -5,7 +5,7 @@ use mathlib.Core.Path.{_≡_, ap, _∙_}
 use native.Mathlib.Omega.{arith}
 use borrow.Author.Needs.{needs}
 use Rattle.cutting.specs.Limits.{piecesMax}
-use Rattle.laws.specs.Inner.{filled}
+use Rattle.laws.specs.Inner.{filledRow}
 use Rattle.laws.proofs.Filled.{filled-none, filled-more, filled-end}
 use Rattle.job.specs.Job.{recordOf, noRecord}
 use Rattle.job.specs.Block.{pieceIn}
@@ -14,7 +14,7 @@ use Rattle.job.proofs.block.records_in.Statement.{statement}
 use Rattle.job.proofs.block.records_in.Tie as tie
 
 abbrev Inv-loop : tie.InvT-loop
-Inv-loop s count records₀ k₀ records k = (k ≤ count) × (records ≡ filled (λ i. recordOf (pieceIn s i)) noRecord k piecesMax)
+Inv-loop s count records₀ k₀ records k = (k ≤ count) × (records ≡ filledRow (λ i. recordOf (pieceIn s i)) noRecord k piecesMax)
 
 abbrev μ-loop : tie.MeasureT-loop
 μ-loop s count records₀ k₀ records k = count - k
@@ -25,7 +25,8 @@ loop-holds c = (omega arith, ap (replicate 64) (c .zeros .ensures) ∙ filled-no
 loop-again : tie.Need-loop-again Inv-loop μ-loop
 loop-again c =
     let head = c .before .before .before in
-    (omega arith, filled-more _ noRecord (head .loop .k) piecesMax (omega arith) (head .loop .inv .1) (piece-in _ (head .loop .k) (c .before .block-length .ensures) (c .piece-from .ensures)))
+    let piece = piece-in _ (head .loop .k) (c .before .block-length .ensures) (c .piece-from .ensures) in
+    (omega arith, filled-more _ noRecord (head .loop .k) piecesMax (omega arith) (head .loop .inv .1) piece)
 
 returns : tie.Need-returns Inv-loop μ-loop
 returns c =

@@ -5,7 +5,7 @@ use mathlib.Core.Path.{_≡_, ap, _∙_}
 use native.Mathlib.Omega.{arith}
 use borrow.Author.Needs.{needs}
 use Rattle.cutting.specs.Limits.{piecesMax}
-use Rattle.laws.specs.Inner.{filled}
+use Rattle.laws.specs.Inner.{filledRow}
 use Rattle.laws.proofs.Filled.{filled-none, filled-end}
 use Rattle.job.specs.Job.{noRecord}
 use Rattle.job.specs.Inner.{movedFrom}
@@ -14,7 +14,7 @@ use Rattle.job.proofs.change.kept.Statement.{statement}
 use Rattle.job.proofs.change.kept.Tie as tie
 
 abbrev Inv-loop : tie.InvT-loop
-Inv-loop gap count records kept₀ k₀ kept k = (k ≤ count) × (kept ≡ filled (λ i. getD records (movedFrom gap i) noRecord) noRecord k piecesMax)
+Inv-loop gap count records kept₀ k₀ kept k = (k ≤ count) × (kept ≡ filledRow (λ i. getD records (movedFrom gap i) noRecord) noRecord k piecesMax)
 
 abbrev μ-loop : tie.MeasureT-loop
 μ-loop gap count records kept₀ k₀ kept k = count - k

@@ -1,0 +1,60 @@
+-- The plan file's own numbers: letters, lengths and places. Reader, writer and checker use these names, and the code has the same as constants.
+use Prim.Native.Nat.{ℕ, _+_}
+
+-- The letters V, H, P and S as bytes.
+abbrev pub letterV : ℕ
+letterV = 86
+
+abbrev pub letterH : ℕ
+letterH = 72
+
+abbrev pub letterP : ℕ
+letterP = 80
+
+abbrev pub letterS : ℕ
+letterS = 83
+
+-- "Three bytes each: a letter and a two-byte number."
+abbrev pub nodeLength : ℕ
+nodeLength = 3
+
+-- The job block begins with a head of three numbers (width, height, n), then come three for each piece (width, height, value), two bytes each:
+-- the lengths, and where the second and the third number stand.
+abbrev pub headBytes : ℕ
+headBytes = 6
+
+abbrev pub pieceBytes : ℕ
+pieceBytes = 6
+
+abbrev pub secondNumber : ℕ
+secondNumber = 2
+
+abbrev pub thirdNumber : ℕ
+thirdNumber = 4
+
+-- "plan file to be checked: 25 to 1,048,576 bytes"
+abbrev pub fileLeast : ℕ
+fileLeast = 25
+
+abbrev pub fileMost : ℕ
+fileMost = 1_048_576
+
+-- "Last a trailer of 16 bytes that points back: D1 ..; D2 ..; the value; the sum (four bytes each)": where they stand in it.
+abbrev pub trailerLength : ℕ
+trailerLength = 16
+
+abbrev pub blockField : ℕ
+blockField = 0
+
+abbrev pub nodesField : ℕ
+nodesField = 4
+
+abbrev pub valueField : ℕ
+valueField = 8
+
+abbrev pub sumField : ℕ
+sumField = 12
+
+-- "D1 < 9": a head and a node at least.
+abbrev pub distanceLeast : ℕ
+distanceLeast = headBytes + nodeLength

@@ -60,7 +60,8 @@ unfolding anyInBox
 anyInBox-says x y test =
     says-iff (
       λ s. let r = anyInRow-says x (suc (s .0)) test .means (s .2) in (r .0, suc (s .0), omega (arith, r .1, r .2, s .1), r .3),
-      λ s. (s .1 - 1, omega (arith, s .2), anyInRow-says x (suc (s .1 - 1)) test .found (s .0, omega (arith, s .2), omega (arith, s .2), ap (test (s .0)) (omega (arith, s .2)) ∙ s .3)),
+      λ s. let r = anyInRow-says x (suc (s .1 - 1)) test in
+          (s .1 - 1, omega (arith, s .2), r .found (s .0, omega (arith, s .2), omega (arith, s .2), ap (test (s .0)) (omega (arith, s .2)) ∙ s .3)),
     )
     (anyBelow-says (λ j. anyInRow x (suc j) test) y)
 

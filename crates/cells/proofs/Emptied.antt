@@ -25,7 +25,8 @@ pub emptiedWhere-length : (a b : ℕ) (r : ℕ → ℕ → Bool) (t : List ℕ) 
 unfolding emptiedWhere
 emptiedWhere-length a b r t = redrawn-length a b _ t
 
-pub emptiedWhere-cell : {x y a b : ℕ} (r : ℕ → ℕ → Bool) (t : List ℕ) → a * b ≤ length t → Inside x y a b → cellOf a (emptiedWhere a b r t) x y ≡ cond (r x y) empty (cellOf a t x y)
+pub emptiedWhere-cell : {x y a b : ℕ} (r : ℕ → ℕ → Bool) (t : List ℕ) → a * b ≤ length t → Inside x y a b
+    → cellOf a (emptiedWhere a b r t) x y ≡ cond (r x y) empty (cellOf a t x y)
 unfolding emptiedWhere
 emptiedWhere-cell r t room i = redrawn-cell _ t room i
 
@@ -33,12 +34,15 @@ pub emptiedWhere-beyond : (a b : ℕ) (r : ℕ → ℕ → Bool) (t : List ℕ) 
 unfolding emptiedWhere
 emptiedWhere-beyond a b r t k h = redrawn-beyond a b _ t k h
 
-pub is-emptiedWhere : (a b : ℕ) (r : ℕ → ℕ → Bool) (t t' : List ℕ) → length t' ≡ length t → ((x y : ℕ) → Inside x y a b → cellOf a t' x y ≡ cond (r x y) empty (cellOf a t x y)) → ((k : ℕ) → a * b ≤ k → getD t' k empty ≡ getD t k empty) → t' ≡ emptiedWhere a b r t
+pub is-emptiedWhere : (a b : ℕ) (r : ℕ → ℕ → Bool) (t t' : List ℕ) → length t' ≡ length t
+    → ((x y : ℕ) → Inside x y a b → cellOf a t' x y ≡ cond (r x y) empty (cellOf a t x y)) → ((k : ℕ) → a * b ≤ k → getD t' k empty ≡ getD t k empty)
+    → t' ≡ emptiedWhere a b r t
 unfolding emptiedWhere
 is-emptiedWhere a b r t t' = is-redrawn a b _ t t'
 
 -- Where the test says what is hit, the row that it empties is the only one that `Empties` allows.
-module _ (a b : ℕ) (struck : ℕ → ℕ → Bool) (hit : ℕ → ℕ → Type 0) (t : List ℕ) (room : a * b ≤ length t) (says : (x y : ℕ) → Inside x y a b → Says (struck x y) (hit x y)) where
+module _ (a b : ℕ) (struck : ℕ → ℕ → Bool) (hit : ℕ → ℕ → Type 0) (t : List ℕ) (room : a * b ≤ length t)
+    (says : (x y : ℕ) → Inside x y a b → Says (struck x y) (hit x y)) where
   pub emptiedWhere-empties : Empties a b hit t (emptiedWhere a b struck t)
   emptiedWhere-empties =
       record {
@@ -68,7 +72,8 @@ unfolding emptiedWhere
 emptiedWhere-none a b r t none = redrawn-same a b _ (cellOf a t) t (λ x y i. ap (left a t x y) (none x y i)) ∙ redrawn-keeps a b t
 
 -- "where the old size or the new size .. fits": emptying twice empties where either is struck.
-pub emptiedWhere-twice : (a b : ℕ) (r s : ℕ → ℕ → Bool) (t : List ℕ) → a * b ≤ length t → emptiedWhere a b s (emptiedWhere a b r t) ≡ emptiedWhere a b (λ x y. r x y || s x y) t
+pub emptiedWhere-twice : (a b : ℕ) (r s : ℕ → ℕ → Bool) (t : List ℕ) → a * b ≤ length t
+    → emptiedWhere a b s (emptiedWhere a b r t) ≡ emptiedWhere a b (λ x y. r x y || s x y) t
 emptiedWhere-twice a b r s t room =
     let first : List ℕ = emptiedWhere a b r t in
     let long : length first ≡ length t = emptiedWhere-length a b r t in
@@ -84,7 +89,8 @@ emptiedWhere-twice a b r s t room =
     either false false v = refl
 
 -- Nothing struck above row y: the rows above need not be looked at.
-pub emptiedWhere-lower : (a b y : ℕ) (r : ℕ → ℕ → Bool) (t : List ℕ) → y ≤ b → a * b ≤ length t → ((u w : ℕ) → y < w → r u w ≡ false) → emptiedWhere a y r t ≡ emptiedWhere a b r t
+pub emptiedWhere-lower : (a b y : ℕ) (r : ℕ → ℕ → Bool) (t : List ℕ) → y ≤ b → a * b ≤ length t → ((u w : ℕ) → y < w → r u w ≡ false)
+    → emptiedWhere a y r t ≡ emptiedWhere a b r t
 unfolding cellOf
 emptiedWhere-lower a b y r t low room none =
     let less : a * y ≤ a * b = mul-le-mul-left a low in
@@ -113,6 +119,7 @@ pub emptied-whole : {x y a b : ℕ} (t : List ℕ) → a * b ≤ length t → In
 emptied-whole t room i = emptied-fitting t room i (omega arith)
 
 -- "where the old size or the new size .. fits"
-pub emptied-twice : (a b p q p' q' : ℕ) (t : List ℕ) → a * b ≤ length t → emptied a b p' q' (emptied a b p q t) ≡ emptiedWhere a b (λ x y. fits p q x y || fits p' q' x y) t
+pub emptied-twice : (a b p q p' q' : ℕ) (t : List ℕ) → a * b ≤ length t
+    → emptied a b p' q' (emptied a b p q t) ≡ emptiedWhere a b (λ x y. fits p q x y || fits p' q' x y) t
 unfolding emptied
 emptied-twice a b p q p' q' t room = emptiedWhere-twice a b (fits p q) (fits p' q') t room

@@ -51,7 +51,8 @@ redrawn-beyond a b new t k h = ⊎-elim past within (le-or-lt (length t) k)
     within l = redrawn-at a b new t k l ∙ ap (entry a new t k) (le-ltb k (a * b) h)
 
 -- A row as long as t, with `new x y` in its cells and the entries of t from a·b on, is the redrawn row.
-pub is-redrawn : (a b : ℕ) (new : ℕ → ℕ → ℕ) (t t' : List ℕ) → length t' ≡ length t → ((x y : ℕ) → Inside x y a b → cellOf a t' x y ≡ new x y) → ((k : ℕ) → a * b ≤ k → getD t' k empty ≡ getD t k empty) → t' ≡ redrawn a b new t
+pub is-redrawn : (a b : ℕ) (new : ℕ → ℕ → ℕ) (t t' : List ℕ) → length t' ≡ length t → ((x y : ℕ) → Inside x y a b → cellOf a t' x y ≡ new x y)
+    → ((k : ℕ) → a * b ≤ k → getD t' k empty ≡ getD t k empty) → t' ≡ redrawn a b new t
 unfolding redrawn cellOf
 is-redrawn a b new t t' same cells beyond = is-byIndex _ (length t) t' empty same each
   where
@@ -103,7 +104,8 @@ pub store-same : {x y a b : ℕ} (t : List ℕ) (v : ℕ) → a * b ≤ length t
 unfolding cellOf
 store-same {x} {y} {a} {b} t v room i = getD-set-same t (place a x y) v empty (omega (arith, place-below i))
 
-pub store-other : {x y u w a b : ℕ} (t : List ℕ) (v : ℕ) → Inside x y a b → Inside u w a b → ((u ≡ x) × (w ≡ y) → ⊥) → cellOf a (set t (place a x y) v) u w ≡ cellOf a t u w
+pub store-other : {x y u w a b : ℕ} (t : List ℕ) (v : ℕ) → Inside x y a b → Inside u w a b → ((u ≡ x) × (w ≡ y) → ⊥)
+    → cellOf a (set t (place a x y) v) u w ≡ cellOf a t u w
 unfolding cellOf
 store-other {x} {y} {u} {w} {a} t v i j other = getD-set-other t (place a x y) (place a u w) v empty (λ e. other (same-place j i e))
 

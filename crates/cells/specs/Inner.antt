@@ -43,12 +43,12 @@ unfoldable pub between : ℕ → ℕ → ℕ → Bool
 between l h k = leb l k && ltb k h
 
 -- The columns from p and before x, of the rows from q and before y.
-unfoldable pub block : ℕ → ℕ → ℕ → ℕ → ℕ → ℕ → Bool
-block p x q y u w = between p x u && between q y w
+unfoldable pub patch : ℕ → ℕ → ℕ → ℕ → ℕ → ℕ → Bool
+patch p x q y u w = between p x u && between q y w
 
 -- The columns from p on, of row y.
 abbrev pub rowFrom : ℕ → ℕ → ℕ → ℕ → ℕ → Bool
-rowFrom a p y = block p (a + 1) y (y + 1)
+rowFrom a p y = patch p (a + 1) y (y + 1)
 
 -- Tests over a box: the cells (u, w) "with u ≤ x and w ≤ y".
 

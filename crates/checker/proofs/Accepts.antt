@@ -25,13 +25,12 @@ use Rattle.job.specs.Inner.{fromBlock}
 use Rattle.job.proofs.Pieces.{pieces-length, pieces-jobOf}
 use Rattle.job.proofs.Range.{job-says, jobOf-in-range}
 use Rattle.job.proofs.Blocks.{shape-says, block-length, from-block-of-block, block-written, range-fits}
-use Rattle.nodes.specs.declared.Part.{Part}
-use Rattle.nodes.specs.declared.Tally.{Tally}
 use Rattle.nodes.specs.Encoding.{encode}
-use Rattle.nodes.specs.Reads.{tallyOf}
+use Rattle.nodes.specs.Reads.{Tally, tallyOf}
+use Rattle.nodes.specs.Inner.{Part}
 use Rattle.nodes.proofs.Encoding.{encode-least, valid-written}
 use Rattle.nodes.proofs.Exactly.{complete}
-use Rattle.checker.specs.Refusals.{fileMost}
+use Rattle.fields.specs.Format.{fileMost}
 use Rattle.checker.specs.Fields.{trailerAt, blockDistance, nodesDistance, statedValue, statedSum, noteLength, nodesAt, summedBytes, blockBytes, beforeTrailer, jobAt}
 use Rattle.checker.specs.Checked.{Answer, answer, Framed}
 use Rattle.checker.specs.Inner.{agreed, nodesRead, checked}
@@ -43,7 +42,8 @@ use Rattle.checker.proofs.Parts.{layout, pointersOf, laid-length, laid-
 use Rattle.checker.proofs.Given.{bytes-take, bytes-drop, fits-shape, block-bytes-length, given}
 
 -- The file of a valid tree is accepted, with the tree's value and areas.
-module _ (note : List ℕ) (job : Job) (tree : Tree) (range : JobInRange job) (valid : Valid (piecesOf job) tree (job .width) (job .height)) (most : length (planBytes note job tree) ≤ fileMost) where
+module _ (note : List ℕ) (job : Job) (tree : Tree) (range : JobInRange job) (valid : Valid (piecesOf job) tree (job .width) (job .height))
+    (most : length (planBytes note job tree) ≤ fileMost) where
   abbrev pieces : List Piece
   pieces = piecesOf job
 
@@ -78,7 +78,8 @@ module _ (note : List ℕ) (job : Job) (tree : Tree) (range : JobInRange job) (v
 
   small-value : value < 4_294_967_296
   small-value =
-      omega (arith, earning-bound (range .pieces) (dissection-of valid), most-mono (job .width) (job .height) sideMax sideMax (range .widthMost) (range .heightMost))
+      let bound = earning-bound (range .pieces) (dissection-of valid) in
+      omega (arith, bound, most-mono (job .width) (job .height) sideMax sideMax (range .widthMost) (range .heightMost))
 
   small-sum : sum < 4_294_967_296
   small-sum = sum-below 1 (summed job tree) (omega arith)
@@ -128,25 +129,29 @@ module _ (note : List ℕ) (job : Job) (tree : Tree) (range : JobInRange job) (v
 
   again-range : JobInRange again
   again-range =
-      jobOf-in-range (job .width) (job .height) pieces (record { least = range .widthLeast; most = range .widthMost }) (record { least = range .heightLeast; most = range .heightMost }) pieces-few (range .pieces)
+      jobOf-in-range (job .width) (job .height) pieces (record { least = range .widthLeast; most = range .widthMost })
+      (record { least = range .heightLeast; most = range .heightMost }) pieces-few (range .pieces)
 
   block-file : _≡_ {A = Blocked} (record { ok = true; job = again }) (fromBlock (blockBytes file))
   unfolding body
   block-file =
-      sym (ap fromBlock (laid-block note (blockOf job) (encode tree) far near value sum small-far small-near small-value small-sum refl refl) ∙ from-block-of-block (job .width) (job .height) pieces (range-fits job range))
+      let laid = laid-block note (blockOf job) (encode tree) far near value sum small-far small-near small-value small-sum refl refl in
+      sym (ap fromBlock laid ∙ from-block-of-block (job .width) (job .height) pieces (range-fits job range))
 
   agreed-file : agreed (record { ok = true; job = again }) ≡ true
   unfolding agreed
   agreed-file = job-says again .found again-range
 
-  nodes-file : Part.Read (trailerAt file) (tallyOf pieces tree (record { width = job .width; height = job .height })) ≡ nodesRead file again
+  nodes-file : Part.Read (trailerAt file) (tallyOf pieces tree (job .width) (job .height)) ≡ nodesRead file again
   unfolding body jobOf
   nodes-file =
-      nodes-done file again (sym (pieces-jobOf (job .width) (job .height) pieces pieces-few)) refl refl
-      (sym (complete pieces (beforeTrailer file) valid (valid-written (omega (arith, pieces-few)) (omega (arith, range .widthMost)) (omega (arith, range .heightMost)) valid) (nodesAt file) (trailerAt file)
-      (laid-found note (blockOf job) (encode tree) far near value sum small-far small-near small-value small-sum refl refl)))
+      let written = valid-written (omega (arith, pieces-few)) (omega (arith, range .widthMost)) (omega (arith, range .heightMost)) valid in
+      sym (complete pieces (beforeTrailer file) valid written (nodesAt file) (trailerAt file)
+      (laid-found note (blockOf job) (encode tree) far near value sum small-far small-near small-value small-sum refl refl))
+      ∙ nodes-done file again (sym (pieces-jobOf (job .width) (job .height) pieces pieces-few)) refl refl refl refl
 
-  pub plan-accepted : Checked.Accepted (earning (piecesOf job) tree) (length note) (pieceArea (piecesOf job) tree) (scrapArea tree (job .width) (job .height)) ≡ checked (planBytes note job tree)
+  pub plan-accepted : Checked.Accepted (earning (piecesOf job) tree) (length note) (pieceArea (piecesOf job) tree) (scrapArea tree (job .width) (job .height))
+      ≡ checked (planBytes note job tree)
   unfolding tallyOf
   plan-accepted =
       judges file (framed-says file .found framed-file) (sum-says file .found sum-file) block-file agreed-file nodes-file
@@ -159,7 +164,8 @@ drop-take m n k l e h =
     dropped (take n l) (take m l) (take k (drop m l)) m (ap (λ (j : ℕ). take j l) e ∙ take-add m k l) (length-take-le m l (omega arith))
 
 -- A file that the list accepts is that of the tree which was read.
-module _ (file : List ℕ) (bytes : Bytes file) (f : Framed file) (s : SumTrue file) (j : JobFits file) {t : Tally} (o : NodesObey file t) (v : t .value ≡ statedValue file) where
+module _ (file : List ℕ) (bytes : Bytes file) (f : Framed file) (s : SumTrue file) (j : JobFits file) {t : Tally}
+    (o : NodesObey file t) (v : t .value ≡ statedValue file) where
   abbrev own : Job
   own = jobAt file
 
@@ -175,7 +181,9 @@ module _ (file : List ℕ) (bytes : Bytes file) (f : Framed file) (s : SumTrue f
   block-same : blockBytes file ≡ blockOf own
   unfolding jobAt blockBytes
   block-same =
-      block-written (blockBytes file) (bytes-take (blockDistance file - nodesDistance file) (drop (noteLength file) file) (bytes-drop (noteLength file) file bytes)) (shape-says (blockBytes file) .means (fits-shape file f j))
+      let behind = bytes-drop (noteLength file) file bytes in
+      block-written (blockBytes file) (bytes-take (blockDistance file - nodesDistance file) (drop (noteLength file) file) behind)
+      (shape-says (blockBytes file) .means (fits-shape file f j))
 
   nodes-length : nodesDistance file ≡ length (encode (o .tree))
   nodes-length = omega (arith, o .found .place, order, f .inside)
@@ -183,7 +191,8 @@ module _ (file : List ℕ) (bytes : Bytes file) (f : Framed file) (s : SumTrue f
   nodes-same : take (nodesDistance file) (drop (nodesAt file) file) ≡ encode (o .tree)
   nodes-same =
       let at : trailerAt file ≡ nodesAt file + nodesDistance file = omega (arith, order, f .inside) in
-      let none : drop (trailerAt file) (beforeTrailer file) ≡ [] = drop-of-length-le (beforeTrailer file) {i = trailerAt file} (omega (arith, length-take (trailerAt file) file)) in
+      let none : drop (trailerAt file) (beforeTrailer file) ≡ [] =
+      drop-of-length-le (beforeTrailer file) {i = trailerAt file} (omega (arith, length-take (trailerAt file) file)) in
       sym (drop-take (nodesAt file) (trailerAt file) (nodesDistance file) file at (omega arith))
       ∙ (o .found .bytes ∙ (ap (λ (l : List ℕ). encode (o .tree) ++ l) none ∙ append-nil (encode (o .tree))))
 
@@ -209,9 +218,10 @@ module _ (file : List ℕ) (bytes : Bytes file) (f : Framed file) (s : SumTrue f
   summed-same : summedBytes file ≡ made
   unfolding summedBytes
   summed-same =
+      let whole = ap length laid-file ∙ length-append front (made ++ bytes4 (statedSum file)) in
       taken (drop (noteLength file) file) made (bytes4 (statedSum file)) (blockDistance file + 12)
       (dropped file front (made ++ bytes4 (statedSum file)) (noteLength file) laid-file note-length)
-      (omega (arith, ap length laid-file, length-append front (made ++ bytes4 (statedSum file)), length-append made (bytes4 (statedSum file)), bytes4-length (statedSum file), note-length, f .inside, f .least))
+      (omega (arith, whole, length-append made (bytes4 (statedSum file)), bytes4-length (statedSum file), note-length, f .inside, f .least))
 
   sum-same : statedSum file ≡ sumOf (summed own (o .tree))
   sum-same = sym s ∙ ap sumOf (summed-same ∙ made-same)
@@ -227,13 +237,15 @@ module _ (file : List ℕ) (bytes : Bytes file) (f : Framed file) (s : SumTrue f
         range = j .range;
         valid = o .valid;
         bytes = laid-file ∙ (λ i. front ++ (made-same i ++ bytes4 (sum-same i)));
-        answers = ap₂ (λ (q : Tally) (n : ℕ). record { number = 0; value = q .value; note = n; pieceArea = q .pieces; scrapArea = q .scrap }) (o .sums) (sym note-length);
+        answers = ap₂ (λ (q : Tally) (n : ℕ). record { number = 0; value = q .value; note = n; pieceArea = q .pieces; scrapArea = q .scrap })
+            (o .sums) (sym note-length);
       }
 
 -- Both directions, whoever wrote the file.
 pub accepts-exactly : (file : List ℕ) → Bytes file → (a : Answer) → ((answer (checked file) ≡ a) × (a .number ≡ 0)) ↔ PlanFile file a
 accepts-exactly file bytes a =
-    (λ h. subst (PlanFile file) (h .0) (found (given file bytes) (ap (λ (b : Answer). b .number) (h .0) ∙ h .1)), λ p. (accepted p, ap (λ (b : Answer). b .number) (p .answers)))
+    let number : Answer → ℕ = λ b. b .number in
+    (λ h. subst (PlanFile file) (h .0) (found (given file bytes) (ap number (h .0) ∙ h .1)), λ p. (accepted p, ap number (p .answers)))
   where
     found : {r : Checked} → Given file r → answer r .number ≡ 0 → PlanFile file (answer r)
     found (Given.nine n) z = absurd (omega arith)
@@ -245,8 +257,9 @@ accepts-exactly file bytes a =
 
     accepted : PlanFile file a → answer (checked file) ≡ a
     accepted p =
+        let most = subst (λ (l : List ℕ). length l ≤ fileMost) (p .bytes) (p .most) in
         ap (λ (l : List ℕ). answer (checked l)) (p .bytes)
-        ∙ (sym (ap answer (plan-accepted (p .note) (p .job) (p .tree) (p .range) (p .valid) (subst (λ (l : List ℕ). length l ≤ fileMost) (p .bytes) (p .most)))) ∙ sym (p .answers))
+        ∙ (sym (ap answer (plan-accepted (p .note) (p .job) (p .tree) (p .range) (p .valid) most)) ∙ sym (p .answers))
 
 -- "it is proved that together they make width times height"
 pub plan-areas : {file : List ℕ} {a : Answer} (p : PlanFile file a) → a .pieceArea + a .scrapArea ≡ p .job .width * p .job .height

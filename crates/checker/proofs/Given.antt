@@ -21,14 +21,13 @@ use Rattle.job.specs.Inner.{fromBlock, blockShape}
 use Rattle.job.proofs.Pieces.{pieces-length}
 use Rattle.job.proofs.Range.{job-says}
 use Rattle.job.proofs.Blocks.{shape-says}
-use Rattle.nodes.specs.declared.Part.{Part}
-use Rattle.nodes.specs.declared.Tally.{Tally}
-use Rattle.nodes.specs.Reads.{ReadAs}
+use Rattle.nodes.specs.Reads.{Tally, ReadAs}
+use Rattle.nodes.specs.Inner.{Part}
 use Rattle.nodes.proofs.Exactly.{exactly}
 use Rattle.nodes.proofs.Own.{never-read, place-same}
 use Rattle.checker.specs.Refusals.{nodesBroken}
 use Rattle.checker.specs.Fields.{trailerAt, blockDistance, nodesDistance, statedValue, noteLength, nodesAt, blockBytes, beforeTrailer, jobAt, countAt}
-use Rattle.checker.specs.Checked.{Framed, whole}
+use Rattle.checker.specs.Checked.{Framed, wholeSheet}
 use Rattle.checker.specs.Inner.{framed, sumAgrees, agreed, nodesRead, judged, judgedJob, checked}
 use Rattle.checker.specs.Given.{SumTrue, JobFits, NodesObey, Given}
 use Rattle.checker.specs.declared.Checked.{Checked}
@@ -51,7 +50,8 @@ count-same file h =
     let n = blockDistance file - nodesDistance file in
     let m = noteLength file in
     let low : getD (take n (drop m file)) 4 0 ≡ getD file (m + 4) 0 = getD-take n (drop m file) 4 0 (omega arith) ∙ getD-drop m file 4 0 in
-    let high : getD (take n (drop m file)) 5 0 ≡ getD file (m + 4 + 1) 0 = getD-take n (drop m file) 5 0 (omega arith) ∙ (getD-drop m file 5 0 ∙ ap (λ (k : ℕ). getD file k 0) (omega arith)) in
+    let high : getD (take n (drop m file)) 5 0 ≡ getD file (m + 4 + 1) 0 =
+    getD-take n (drop m file) 5 0 (omega arith) ∙ (getD-drop m file 5 0 ∙ ap (λ (k : ℕ). getD file k 0) (omega arith)) in
     omega arith
 
 pub block-bytes-length : (file : List ℕ) → Framed file → length (blockBytes file) ≡ blockDistance file - nodesDistance file
@@ -78,7 +78,8 @@ module _ (file : List ℕ) (f : Framed file) where
   fits-shape j =
       let n = block-bytes-length file f in
       let c = count-same file (omega (arith, j .distances)) in
-      shape-says (blockBytes file) .found (record { head = omega (arith, j .distances); most = omega (arith, job-in-count (blockBytes file), j .range .countMost); whole = omega (arith, j .distances) })
+      let count = job-in-count (blockBytes file) ∙ c in
+      shape-says (blockBytes file) .found (record { head = omega arith; most = omega (arith, count, j .range .countMost); whole = omega (arith, j .distances) })
 
   pub fits-job : JobFits file → fromBlock (blockBytes file) .job ≡ jobAt file
   unfolding jobAt
@@ -97,10 +98,12 @@ module _ (file : List ℕ) (bytes : Bytes file) (j : JobFits file) where
   abbrev job : Job
   job = jobAt file
 
-  pub nodes-exactly : (next : ℕ) (t : Tally) → (nodesRead file job ≡ Part.Read next t) ↔ ReadAs (piecesOf job) (beforeTrailer file) (whole job (nodesAt file)) next t
+  pub nodes-exactly : (next : ℕ) (t : Tally)
+      → (nodesRead file job ≡ Part.Read next t) ↔ ReadAs (piecesOf job) (beforeTrailer file) (wholeSheet job (nodesAt file)) next t
   unfolding nodesRead
   nodes-exactly next t =
-      exactly (piecesOf job) (beforeTrailer file) (whole job (nodesAt file)) (omega (arith, pieces-length job, j .range .countMost)) (omega (arith, j .range .widthMost)) (omega (arith, j .range .heightMost)) (bytes-take (trailerAt file) file bytes) next t
+      exactly (piecesOf job) (beforeTrailer file) (wholeSheet job (nodesAt file)) (omega (arith, pieces-length job, j .range .countMost))
+      (omega (arith, j .range .widthMost)) (omega (arith, j .range .heightMost)) (bytes-take (trailerAt file) file bytes) next t
 
 -- The answer is given by the list.
 module _ (file : List ℕ) (bytes : Bytes file) where
@@ -125,7 +128,8 @@ module _ (file : List ℕ) (bytes : Bytes file) where
   pub given : Given file (checked file)
   unfolding checked
   given =
-      either-way (Given file) (framed-says file) _ _ (λ f. either-way (Given file) (sum-says file) _ _ (λ s. job-given f s) (λ n. Given.ten f n)) (λ n. Given.nine n)
+      either-way (Given file) (framed-says file) _ _ (λ f. either-way (Given file) (sum-says file) _ _ (λ s. job-given f s) (λ n. Given.ten f n))
+      (λ n. Given.nine n)
 
   framed-true : Framed file → framed file ≡ true
   framed-true f = framed-says file .found f
@@ -134,7 +138,8 @@ module _ (file : List ℕ) (bytes : Bytes file) where
   sum-true s = sum-says file .found s
 
   -- What was read, where it is refused with 12: not up to the trailer.
-  broken : (j : JobFits file) → ((t : Tally) → NodesObey file t → ⊥) → (q : Part) → nodesRead file (jobAt file) ≡ q → Checked.Refused nodesBroken ≡ judged file q
+  broken : (j : JobFits file) → ((t : Tally) → NodesObey file t → ⊥) → (q : Part) → nodesRead file (jobAt file) ≡ q
+      → Checked.Refused nodesBroken ≡ judged file q
   broken j n Part.Broken e = judged-broken file refl
   broken j n (Part.Read k t) e =
       judged-left file refl (λ d. n t (nodes-exactly file bytes j (trailerAt file) t .0 (e ∙ ap (λ (m : ℕ). Part.Read m t) d)))
@@ -145,7 +150,8 @@ module _ (file : List ℕ) (bytes : Bytes file) where
   only (Given.ten f n) = refuses-10 file (framed-true f) (says-no (sum-says file) n)
   only (Given.eleven f s n) = refuses-11 file (framed-true f) (sum-true s) refl (says-no (fits-says file f) n)
   only (Given.twelve f s j n) =
-      judges file (framed-true f) (sum-true s) refl (fits-found file f j) (ap (nodesRead file) (sym (fits-job file f j))) (broken j n (nodesRead file (jobAt file)) refl)
+      judges file (framed-true f) (sum-true s) refl (fits-found file f j) (ap (nodesRead file) (sym (fits-job file f j)))
+      (broken j n (nodesRead file (jobAt file)) refl)
   only (Given.thirteen {t} f s j o v) =
       judges file (framed-true f) (sum-true s) refl (fits-found file f j) (ap (nodesRead file) (sym (fits-job file f j)))
       (judged-value file (nodes-exactly file bytes j (trailerAt file) t .1 o) refl v)

@@ -3,8 +3,8 @@ use Prim.Native.Nat.{ℕ, _≤_}
 use mathlib.Core.List.{List}
 use lib.ListN.{length}
 use Rattle.job.specs.declared.Job.{Job}
-use Rattle.nodes.specs.declared.Frame.{Frame}
-use Rattle.checker.specs.Refusals.{fileLeast, fileMost, distanceLeast}
+use Rattle.nodes.specs.Reads.{Frame, frame}
+use Rattle.fields.specs.Format.{fileLeast, fileMost, distanceLeast}
 use Rattle.checker.specs.Fields.{trailerAt, blockDistance}
 use Rattle.checker.specs.declared.Checked.{Checked}
 
@@ -29,5 +29,5 @@ pub record Framed (file : List ℕ) : Type 0 where
   pub inside : blockDistance file ≤ trailerAt file
 
 -- The whole rectangle of a job, whose nodes start at a place.
-abbrev pub whole : Job → ℕ → Frame
-whole job at = record { at = at; sides = record { width = job .width; height = job .height } }
+abbrev pub wholeSheet : Job → ℕ → Frame
+wholeSheet job at = frame at (job .width) (job .height)

@@ -3,27 +3,31 @@
 use Prim.Native.Nat.{ℕ, _+_, _-_}
 use mathlib.Core.List.{List}
 use lib.ListN.{length, take, drop}
+use Rattle.fields.specs.Format.{blockField, thirdNumber, nodesField, valueField, sumField, trailerLength}
 use Rattle.fields.specs.Number.{number2Of, number4Of}
 use Rattle.job.specs.declared.Job.{Job}
 use Rattle.job.specs.Block.{jobIn}
-use Rattle.checker.specs.Refusals.{trailerLength}
 
 abbrev pub trailerAt : List ℕ → ℕ
 trailerAt file = length file - trailerLength
 
+-- The number of four bytes at a place of the trailer.
+abbrev pub fieldAt : List ℕ → ℕ → ℕ
+fieldAt file place = number4Of file (trailerAt file + place)
+
 -- D1
-unfoldable pub blockDistance : List ℕ → ℕ
-blockDistance file = number4Of file (trailerAt file)
+abbrev pub blockDistance : List ℕ → ℕ
+blockDistance file = fieldAt file blockField
 
 -- D2
-unfoldable pub nodesDistance : List ℕ → ℕ
-nodesDistance file = number4Of file (trailerAt file + 4)
+abbrev pub nodesDistance : List ℕ → ℕ
+nodesDistance file = fieldAt file nodesField
 
-unfoldable pub statedValue : List ℕ → ℕ
-statedValue file = number4Of file (trailerAt file + 8)
+abbrev pub statedValue : List ℕ → ℕ
+statedValue file = fieldAt file valueField
 
-unfoldable pub statedSum : List ℕ → ℕ
-statedSum file = number4Of file (trailerAt file + 12)
+abbrev pub statedSum : List ℕ → ℕ
+statedSum file = fieldAt file sumField
 
 -- "A free note of any bytes may come first", as many as there are before the job block.
 abbrev pub noteLength : List ℕ → ℕ
@@ -34,7 +38,7 @@ nodesAt file = trailerAt file - nodesDistance file
 
 -- The bytes "from the job block up to the sum field".
 unfoldable pub summedBytes : List ℕ → List ℕ
-summedBytes file = take (blockDistance file + 12) (drop (noteLength file) file)
+summedBytes file = take (blockDistance file + sumField) (drop (noteLength file) file)
 
 -- The bytes from the job block up to the first node.
 unfoldable pub blockBytes : List ℕ → List ℕ
@@ -49,4 +53,4 @@ unfoldable pub jobAt : List ℕ → Job
 jobAt file = jobIn (blockBytes file)
 
 unfoldable pub countAt : List ℕ → ℕ
-countAt file = number2Of file (noteLength file + 4)
+countAt file = number2Of file (noteLength file + thirdNumber)

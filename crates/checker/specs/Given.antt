@@ -6,11 +6,10 @@ use Rattle.fields.specs.Sum.{sumOf}
 use Rattle.job.specs.Job.{piecesOf}
 use Rattle.job.specs.Range.{JobInRange}
 use Rattle.job.specs.Block.{blockLength}
-use Rattle.nodes.specs.declared.Tally.{Tally}
-use Rattle.nodes.specs.Reads.{ReadAs}
+use Rattle.nodes.specs.Reads.{Tally, ReadAs}
 use Rattle.checker.specs.Refusals.{notFramed, sumDiffers, jobOutOfRange, nodesBroken, valueDiffers}
 use Rattle.checker.specs.Fields.{trailerAt, blockDistance, nodesDistance, statedValue, statedSum, noteLength, nodesAt, summedBytes, beforeTrailer, jobAt, countAt}
-use Rattle.checker.specs.Checked.{Framed, whole}
+use Rattle.checker.specs.Checked.{Framed, wholeSheet}
 use Rattle.checker.specs.declared.Checked.{Checked}
 
 -- The running sum does not differ.
@@ -24,7 +23,7 @@ pub record JobFits (file : List ℕ) : Type 0 where
 
 -- The nodes break no rule: from the first node up to the trailer stand those of a tree that dissects the block's rectangle.
 abbrev pub NodesObey : List ℕ → Tally → Type 0
-NodesObey file tally = ReadAs (piecesOf (jobAt file)) (beforeTrailer file) (whole (jobAt file) (nodesAt file)) (trailerAt file) tally
+NodesObey file tally = ReadAs (piecesOf (jobAt file)) (beforeTrailer file) (wholeSheet (jobAt file) (nodesAt file)) (trailerAt file) tally
 
 -- "Checked in the order of the numbers."
 pub data Given (file : List ℕ) : Checked → Type 0 where
@@ -37,6 +36,8 @@ pub data Given (file : List ℕ) : Checked → Type 0 where
   -- "the nodes break a rule below"
   twelve : Framed file → SumTrue file → JobFits file → ((t : Tally) → NodesObey file t → ⊥) → Given file (Checked.Refused nodesBroken)
   -- "the stated value isn't the sum of the leaves"
-  thirteen : {t : Tally} → Framed file → SumTrue file → JobFits file → NodesObey file t → (t .value ≡ statedValue file → ⊥) → Given file (Checked.Refused valueDiffers)
+  thirteen : {t : Tally} → Framed file → SumTrue file → JobFits file → NodesObey file t → (t .value ≡ statedValue file → ⊥)
+      → Given file (Checked.Refused valueDiffers)
   -- "An accepted file answers value, note length, piece area and scrap area."
-  accepted : {t : Tally} → Framed file → SumTrue file → JobFits file → NodesObey file t → t .value ≡ statedValue file → Given file (Checked.Accepted (t .value) (noteLength file) (t .pieces) (t .scrap))
+  accepted : {t : Tally} → Framed file → SumTrue file → JobFits file → NodesObey file t → t .value ≡ statedValue file
+      → Given file (Checked.Accepted (t .value) (noteLength file) (t .pieces) (t .scrap))

@@ -10,12 +10,12 @@ use Rattle.job.specs.declared.Job.{Job}
 use Rattle.job.specs.declared.Blocked.{Blocked}
 use Rattle.job.specs.Job.{piecesOf}
 use Rattle.job.specs.Inner.{jobInRange, fromBlock}
-use Rattle.nodes.specs.declared.Part.{Part}
-use Rattle.nodes.specs.Inner.{partAt}
-use Rattle.checker.specs.Refusals.{notFramed, sumDiffers, jobOutOfRange, nodesBroken, valueDiffers, fileLeast, fileMost, distanceLeast}
+use Rattle.nodes.specs.Inner.{Part, partAt}
+use Rattle.checker.specs.Refusals.{notFramed, sumDiffers, jobOutOfRange, nodesBroken, valueDiffers}
+use Rattle.fields.specs.Format.{fileLeast, fileMost, distanceLeast}
 use Rattle.checker.specs.Fields.{trailerAt, blockDistance, statedValue, statedSum, noteLength, nodesAt, summedBytes, blockBytes, beforeTrailer}
 use Rattle.checker.specs.declared.Checked.{Checked}
-use Rattle.checker.specs.Checked.{whole}
+use Rattle.checker.specs.Checked.{wholeSheet}
 
 -- The check: refusals 9 to 13 in the order of their numbers, and the answer.
 
@@ -33,13 +33,14 @@ unfoldable pub agreed : Blocked → Bool
 agreed blocked = blocked .ok && jobInRange (blocked .job)
 
 unfoldable pub nodesRead : List ℕ → Job → Part
-nodesRead file job = partAt (piecesOf job) (beforeTrailer file) (whole job (nodesAt file))
+nodesRead file job = partAt (piecesOf job) (beforeTrailer file) (wholeSheet job (nodesAt file))
 
 -- 12: "the nodes break a rule below", "bytes left after it"; 13: "the stated value isn't the sum of the leaves"
 unfoldable pub judged : List ℕ → Part → Checked
 judged file (Part.Read next tally) =
     cond (eqb next (trailerAt file))
-    (cond (eqb (tally .value) (statedValue file)) (Checked.Accepted (tally .value) (noteLength file) (tally .pieces) (tally .scrap)) (Checked.Refused valueDiffers))
+    (cond (eqb (tally .value) (statedValue file)) (Checked.Accepted (tally .value) (noteLength file) (tally .pieces) (tally .scrap))
+    (Checked.Refused valueDiffers))
     (Checked.Refused nodesBroken)
 judged file Part.Broken = Checked.Refused nodesBroken
 

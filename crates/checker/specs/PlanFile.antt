@@ -11,7 +11,7 @@ use Rattle.job.specs.Job.{piecesOf}
 use Rattle.job.specs.Range.{JobInRange}
 use Rattle.job.specs.Block.{blockOf}
 use Rattle.nodes.specs.Encoding.{encode}
-use Rattle.checker.specs.Refusals.{fileMost}
+use Rattle.fields.specs.Format.{fileMost}
 use Rattle.checker.specs.Checked.{Answer}
 
 -- The job block and the nodes.
@@ -39,4 +39,11 @@ pub record PlanFile (file : List ℕ) (a : Answer) : Type 0 where
   pub range : JobInRange job
   pub valid : Valid (piecesOf job) tree (job .width) (job .height)
   pub bytes : file ≡ planBytes note job tree
-  pub answers : a ≡ record { number = 0; value = earning (piecesOf job) tree; note = length note; pieceArea = pieceArea (piecesOf job) tree; scrapArea = scrapArea tree (job .width) (job .height) }
+  pub answers : a
+      ≡ record {
+        number = 0;
+        value = earning (piecesOf job) tree;
+        note = length note;
+        pieceArea = pieceArea (piecesOf job) tree;
+        scrapArea = scrapArea tree (job .width) (job .height);
+      }

@@ -1,21 +1,34 @@
 // The check of a plan file: refusals 9 to 13 in the order of their numbers, whoever wrote the file.
+use board::Board;
+use board::PLACES;
+use board::set_pieces;
+use fields::cast::wide;
+use fields::cast::widened;
+use fields::format::BLOCK_FIELD;
+use fields::format::DISTANCE_LEAST;
+use fields::format::FILE_LEAST;
+use fields::format::FILE_MOST;
+use fields::format::NODES_FIELD;
+use fields::format::TRAILER_LENGTH;
+use fields::format::VALUE_FIELD;
 use fields::number4;
 use fields::sum_of;
 use job::Blocked;
 use job::Job;
-use job::Measure;
 use job::block::from_block;
-use nodes::Frame;
-use nodes::Part;
-use nodes::Sides;
+use nodes::PIECE_AREA;
+use nodes::SCRAP_AREA;
+use nodes::Sums;
+use nodes::VALUE;
 use nodes::read_part;
 ghost use mathlib.Core.Path.{_≡_};
 ghost use Prim.Native.Nat.{_+_, _-_, _≤_};
 ghost use lib.ListN.{length};
 ghost use Rattle.job.specs.Range.{JobInRange};
 ghost use Rattle.job.specs.Inner.{fromBlock};
-ghost use Rattle.checker.specs.Refusals.{trailerLength, fileMost};
-ghost use Rattle.checker.specs.Fields.{trailerAt, blockDistance, nodesDistance, statedValue, noteLength, blockBytes};
+ghost use Rattle.nodes.specs.Inner.{Part, noSums, tallyIn, ReadsTo};
+ghost use Rattle.fields.specs.Format.{trailerLength, sumField, fileMost};
+ghost use Rattle.checker.specs.Fields.{trailerAt, fieldAt, blockDistance, nodesDistance, statedValue, noteLength, blockBytes};
 ghost use Rattle.checker.specs.Checked.{Framed};
 ghost use Rattle.checker.specs.Inner.{framed, sumAgrees, agreed, nodesRead, judged, CheckPromise};
 
@@ -41,16 +54,6 @@ pub const NODES_BROKEN: u32 = 12;
 
 pub const VALUE_DIFFERS: u32 = 13;
 
-// The lengths that a file may have.
-pub const FILE_LEAST: usize = 25;
-
-pub const FILE_MOST: usize = 1_048_576;
-
-pub const TRAILER_LENGTH: usize = 16;
-
-// A job block of 6 bytes and a node of 3.
-pub const DISTANCE_LEAST: usize = 9;
-
 // Where the trailer starts.
 fn trailer_at(file: &[u8]) -> usize
     requires { ⌜ trailerLength ≤ length (now file) ⌝ }
@@ -59,10 +62,12 @@ fn trailer_at(file: &[u8]) -> usize
     file.len() - TRAILER_LENGTH
 }
 
-fn widened(n: u32) -> usize
-    ensures { λ r. ⌜ r ≡ n ⌝ }
+// The number of four bytes at a place of the trailer.
+fn field(file: &[u8], place: usize) -> u32
+    requires { ⌜ (trailerLength ≤ length (now file)) × (place ≤ sumField) ⌝ }
+    ensures { λ r. ⌜ r ≡ fieldAt (now (file .entry)) place ⌝ }
 {
-    n as usize
+    number4(file, file.len() - TRAILER_LENGTH + place)
 }
 
 // D1.
@@ -70,8 +75,7 @@ fn block_distance(file: &[u8]) -> usize
     requires { ⌜ trailerLength ≤ length (now file) ⌝ }
     ensures { λ r. ⌜ r ≡ blockDistance (now (file .entry)) ⌝ }
 {
-    let at = trailer_at(file);
-    widened(number4(file, at))
+    widened(field(file, BLOCK_FIELD))
 }
 
 // D2.
@@ -79,16 +83,14 @@ fn nodes_distance(file: &[u8]) -> usize
     requires { ⌜ trailerLength ≤ length (now file) ⌝ }
     ensures { λ r. ⌜ r ≡ nodesDistance (now (file .entry)) ⌝ }
 {
-    let at = trailer_at(file);
-    widened(number4(file, at + 4))
+    widened(field(file, NODES_FIELD))
 }
 
 fn stated_value(file: &[u8]) -> u32
     requires { ⌜ trailerLength ≤ length (now file) ⌝ }
     ensures { λ r. ⌜ r ≡ statedValue (now (file .entry)) ⌝ }
 {
-    let at = trailer_at(file);
-    number4(file, at + 8)
+    field(file, VALUE_FIELD)
 }
 
 fn is_framed(file: &[u8]) -> bool
@@ -158,30 +160,23 @@ fn job_agrees(blocked: Blocked) -> bool
     job.in_range()
 }
 
-// The nodes, read as a part that is the whole rectangle.
-fn read_nodes(file: &[u8], job: Job) -> Part
+// The nodes, read as a part that is the whole rectangle: the place after them and their leaves added up; or 0, a rule is broken.
+fn read_nodes(file: &[u8], job: Job, sums: &mut Sums) -> usize
     requires { ⌜ (trailerLength ≤ length (now file)) × (nodesDistance (now file) ≤ trailerAt (now file)) ⌝ }
-    requires { ⌜ JobInRange job ⌝ }
-    ensures { λ r. ⌜ r ≡ nodesRead (now (file .entry)) job ⌝ }
+    requires { ⌜ JobInRange job × (now sums ≡ noSums) ⌝ }
+    ensures { λ r. ⌜ ReadsTo (now (sums .entry)) (now (sums .exit)) r (nodesRead (now (file .entry)) job) ⌝ }
 {
     let at = trailer_at(file);
     let start = at - nodes_distance(file);
-    let widths = job.row(Measure::Width);
-    let heights = job.row(Measure::Height);
-    let values = job.row(Measure::Value);
+    let mut board: Board = [0; PLACES];
+    set_pieces(&mut board, job);
     read_part(
-        &widths,
-        &heights,
-        &values,
-        job.count as u32,
+        &board,
         &file[..at],
-        Frame {
-            at: start,
-            sides: Sides {
-                width: job.width as u32,
-                height: job.height as u32,
-            },
-        },
+        start,
+        wide(job.width),
+        wide(job.height),
+        sums,
     )
 }
 
@@ -193,17 +188,14 @@ fn narrowed(n: usize) -> u32
 }
 
 // What was read, held to the trailer: the nodes end where it starts, and their leaves have the value that it states.
-fn judge(file: &[u8], read: Part) -> Checked
+fn judge(file: &[u8], next: usize, sums: &Sums) -> Checked
     requires { ⌜ Framed (now file) ⌝ }
-    ensures { λ r. ⌜ r ≡ judged (now (file .entry)) read ⌝ }
+    ensures { λ r. ⌜ r ≡ judged (now (file .entry)) (Part.Read next (tallyIn (now (sums .entry)))) ⌝ }
 {
-    let Part::Read(next, tally) = read else {
-        return Checked::Refused(NODES_BROKEN);
-    };
     if next != trailer_at(file) {
         return Checked::Refused(NODES_BROKEN);
     }
-    let value = tally.value;
+    let value = sums[VALUE];
     let stated = stated_value(file);
     if value != stated {
         return Checked::Refused(VALUE_DIFFERS);
@@ -211,8 +203,8 @@ fn judge(file: &[u8], read: Part) -> Checked
     Checked::Accepted {
         value: value,
         note: narrowed(note_length(file)),
-        piece_area: tally.pieces,
-        scrap_area: tally.scrap,
+        piece_area: sums[PIECE_AREA],
+        scrap_area: sums[SCRAP_AREA],
     }
 }
 
@@ -231,5 +223,7 @@ pub fn check(file: &[u8]) -> Checked
         return Checked::Refused(JOB_OUT_OF_RANGE);
     }
     let job = blocked.job;
-    judge(file, read_nodes(file, job))
+    let mut sums: Sums = [0; 3];
+    let next = read_nodes(file, job, &mut sums);
+    judge(file, next, &sums)
 }

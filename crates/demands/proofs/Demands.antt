@@ -8,12 +8,14 @@ use native.Mathlib.Omega.{arith}
 use Rattle.cutting.specs.Piece.{Fits}
 use Rattle.cells.specs.Box.{isEmpty, countInBox}
 use Rattle.cells.proofs.Box.{isEmpty-says, countInBox-zero}
+use Rattle.laws.specs.Inner.{everyNumber, PassesAt, StopsAt, rowsBefore}
 use Rattle.laws.proofs.Says.{says-no}
+use Rattle.laws.proofs.Refusal.{stopped, granted-before}
 use Rattle.job.specs.declared.Job.{Job}
 use Rattle.job.specs.Block.{blockOf, jobIn, BlockShape}
 use Rattle.job.specs.Inner.{fromBlock}
 use Rattle.job.proofs.Blocks.{from-block-yes, shape-says}
-use Rattle.desk.specs.Refusals.{JobRefusal, AskRefusal}
+use Rattle.desk.specs.Refusals.{notInside, alienTable, askRefusals, AskRefusal}
 use Rattle.khonvertseg.specs.declared.KhonAsked.{KhonAsked}
 use Rattle.khonvertseg.specs.Calls.{KhonAsks}
 use Rattle.demands.specs.History.{History, Covered, SameSheet, cell, Filled, OnSheet, BestFor}
@@ -25,7 +27,8 @@ question-kept : {job : Job} {t : List ℕ} {x y : ℕ} {r : KhonAsked} {t' : Lis
 question-kept {job} {t} {x} {y} k (Question.answered z i f v n) = asked-kept job t k x y i f
 question-kept {job} k (Question.refused h q v n e) = subst (Kept job) (sym e) k
 
-question-filled : {job : Job} {t : List ℕ} {x y : ℕ} {r : KhonAsked} {t' : List ℕ} → Kept job t → Question job t x y r t' → (u w : ℕ) → OnSheet job u w → Filled job t' u w ↔ (Filled job t u w ⊎ ((r .refusal ≡ 0) × Fits u w x y))
+question-filled : {job : Job} {t : List ℕ} {x y : ℕ} {r : KhonAsked} {t' : List ℕ} → Kept job t → Question job t x y r t' → (u w : ℕ) → OnSheet job u w
+    → Filled job t' u w ↔ (Filled job t u w ⊎ ((r .refusal ≡ 0) × Fits u w x y))
 question-filled {job} {t} {x} {y} k (Question.answered z i f v n) u w j =
     let g = asked-filled job t k x y i f u w j in
     ((λ m. ⊎-elim inl (λ o. inr (z, o)) (g .0 m)), (λ m. g .1 (⊎-elim inl (λ o. inr (o .1)) m)))
@@ -95,16 +98,19 @@ demand-3-filled (History.elsewhere h s) u w i =
     ((λ f. g .0 (λ e. f (s .cells u w i ∙ e))), (λ c e. g .1 c (sym (s .cells u w i) ∙ e)))
 
 -- DEMAND 3, third part: "the work reported is the number of cells that were empty under the question"; refusals report 0.
-pub demand-3-work : {job : Job} {t : List ℕ} → History job t → (x y : ℕ) {r : KhonAsked} {t' : List ℕ} → KhonAsks (blockOf job) t x y r t' → (r .refusal ≡ 0 → r .worked ≡ countInBox x y (isEmpty (job .width) t)) × ((r .refusal ≡ 0 → ⊥) → r .worked ≡ 0)
+pub demand-3-work : {job : Job} {t : List ℕ} → History job t → (x y : ℕ) {r : KhonAsked} {t' : List ℕ} → KhonAsks (blockOf job) t x y r t'
+    → (r .refusal ≡ 0 → r .worked ≡ countInBox x y (isEmpty (job .width) t)) × ((r .refusal ≡ 0 → ⊥) → r .worked ≡ 0)
 demand-3-work {job} {t} h x y p = by (question (history-kept h) x y p)
   where
-    by : {r : KhonAsked} {t' : List ℕ} → Question job t x y r t' → (r .refusal ≡ 0 → r .worked ≡ countInBox x y (isEmpty (job .width) t)) × ((r .refusal ≡ 0 → ⊥) → r .worked ≡ 0)
+    by : {r : KhonAsked} {t' : List ℕ} → Question job t x y r t'
+        → (r .refusal ≡ 0 → r .worked ≡ countInBox x y (isEmpty (job .width) t)) × ((r .refusal ≡ 0 → ⊥) → r .worked ≡ 0)
     by (Question.answered z i f v n) = ((λ _. n), (λ h. absurd (h z)))
     by (Question.refused h q v n e) = ((λ z. absurd (h z)), (λ _. n))
 
 -- DEMAND 2, first half: "On a kept table every question inside the sheet is answered, and the value is the most that any
 -- guillotine dissection at whole-unit positions can earn." (So refusal 7 never arises there.)
-pub demand-2-answered : {job : Job} {t : List ℕ} → History job t → (x y : ℕ) → OnSheet job x y → {r : KhonAsked} {t' : List ℕ} → KhonAsks (blockOf job) t x y r t' → (r .refusal ≡ 0) × BestFor job x y (r .value)
+pub demand-2-answered : {job : Job} {t : List ℕ} → History job t → (x y : ℕ) → OnSheet job x y → {r : KhonAsked} {t' : List ℕ}
+    → KhonAsks (blockOf job) t x y r t' → (r .refusal ≡ 0) × BestFor job x y (r .value)
 demand-2-answered {job} {t} h x y i p = by (question (history-kept h) x y p)
   where
     by : {r : KhonAsked} {t' : List ℕ} → Question job t x y r t' → (r .refusal ≡ 0) × BestFor job x y (r .value)
@@ -112,24 +118,27 @@ demand-2-answered {job} {t} h x y i p = by (question (history-kept h) x y p)
     by (Question.refused h' q v n e) = absurd (h' (kept-answered job t (history-kept h) x y i q))
 
 -- "On a table kept so, refusal 7 never arises": no question gets it, inside the sheet or not.
-pub ask-never-seven : {job : Job} {t : List ℕ} → History job t → (x y : ℕ) {r : KhonAsked} {t' : List ℕ} → KhonAsks (blockOf job) t x y r t' → r .refusal ≡ 7 → ⊥
+pub ask-never-seven : {job : Job} {t : List ℕ} → History job t → (x y : ℕ) {r : KhonAsked} {t' : List ℕ} → KhonAsks (blockOf job) t x y r t' → r .refusal ≡ 7
+    → ⊥
+unfolding askRefusals rowsBefore everyNumber PassesAt StopsAt
 ask-never-seven {job} {t} h x y p e = by (question (history-kept h) x y p) e
   where
-    seven : {k : ℕ} → AskRefusal job t x y k → k ≡ 7 → ⊥
-    seven (AskRefusal.job (JobRefusal.job n)) z = omega arith
-    seven (AskRefusal.job (JobRefusal.table r n)) z = omega arith
-    seven (AskRefusal.question u n) z = omega arith
-    seven (AskRefusal.excess u i n) z = n (kept-bounded job t (history-kept h) x y i)
-    seven (AskRefusal.none u i b) z = omega arith
+    seven : AskRefusal job t x y alienTable → ⊥
+    seven g =
+        let rows = askRefusals job t x y in
+        let fact = granted-before rows alienTable (λ z. omega arith) refl g in
+        ⊎-elim (λ n. n (kept-bounded job t (history-kept h) x y (fact notInside .0))) (λ z. z) (stopped rows alienTable (λ z. omega arith) g)
 
     by : {r : KhonAsked} {t' : List ℕ} → Question job t x y r t' → r .refusal ≡ 7 → ⊥
     by (Question.answered z i f v n) e = omega arith
-    by (Question.refused n q v w f) e = seven q e
+    by (Question.refused n q v w f) e = seven (subst (AskRefusal job t x y) e q)
 
 -- The second of two equal questions works out none.
-pub demand-3-again : {job : Job} {t : List ℕ} → History job t → (x y : ℕ) → OnSheet job x y → {r s : KhonAsked} {t' t″ : List ℕ} → KhonAsks (blockOf job) t x y r t' → KhonAsks (blockOf job) t' x y s t″ → s .worked ≡ 0
+pub demand-3-again : {job : Job} {t : List ℕ} → History job t → (x y : ℕ) → OnSheet job x y → {r s : KhonAsked} {t' t″ : List ℕ}
+    → KhonAsks (blockOf job) t x y r t' → KhonAsks (blockOf job) t' x y s t″ → s .worked ≡ 0
 unfolding Covered
 demand-3-again {job} h x y i {t' = t'} p q =
     let after = History.asking h x y p in
     demand-3-work after x y q .0 (demand-2-answered after x y i q .0)
-    ∙ countInBox-zero x y (isEmpty (job .width) t') (λ u w j. says-no (isEmpty-says (job .width) t' u w) (demand-3-filled after u w (omega arith) .1 (inr (demand-2-answered h x y i p .0, omega arith))))
+    ∙ countInBox-zero x y (isEmpty (job .width) t') (λ u w j.
+    says-no (isEmpty-says (job .width) t' u w) (demand-3-filled after u w (omega arith) .1 (inr (demand-2-answered h x y i p .0, omega arith))))

@@ -58,26 +58,29 @@ module _ {job : Job} {t : List ℕ} {job' : Job} {t' : List ℕ} {hit : ℕ → 
   struck-filled u w i f = let spared : hit u w → ⊥ = λ h. f (struck-hit u w i h) in ((λ e. f (struck-spared u w i spared ∙ e)), spared)
 
   struck-kept : Kept job t → Kept job' t'
-  struck-kept k =
-      record {
-        usable = s .usable;
-        tidy = s .tidy;
-        best = λ u w i f. let g = struck-filled u w i f in subst (BestFor job' u w) (sym (struck-spared u w i (g .1))) (s .leaves u w _ (g .1) (k .best u w (here u w i) (g .0)));
-      }
+  struck-kept k = record { usable = s .usable; tidy = s .tidy; best = best }
+    where
+      best : (u w : ℕ) → OnSheet job' u w → Filled job' t' u w → BestFor job' u w (cell job' t' u w)
+      best u w i f =
+          let g = struck-filled u w i f in
+          subst (BestFor job' u w) (sym (struck-spared u w i (g .1))) (s .leaves u w _ (g .1) (k .best u w (here u w i) (g .0)))
 
 -- A job of its own block stays one.
-pub own-after : {job : Job} {t : List ℕ} {job' : Job} {t' : List ℕ} {refusal : ℕ} {hit : ℕ → ℕ → Type 0} → Own job → Outcome job t job' t' refusal hit → Own job'
+pub own-after : {job : Job} {t : List ℕ} {job' : Job} {t' : List ℕ} {refusal : ℕ} {hit : ℕ → ℕ → Type 0} → Own job → Outcome job t job' t' refusal hit
+    → Own job'
 own-after {job' = job'} o (Outcome.accepted e s) = own-block job' (s .usable .range) (s .tidy)
 own-after o (Outcome.refused h e f) = subst Own (sym e) o
 
 -- A kept table stays kept.
-pub outcome-kept : {job : Job} {t : List ℕ} {job' : Job} {t' : List ℕ} {refusal : ℕ} {hit : ℕ → ℕ → Type 0} → Kept job t → Outcome job t job' t' refusal hit → Kept job' t'
+pub outcome-kept : {job : Job} {t : List ℕ} {job' : Job} {t' : List ℕ} {refusal : ℕ} {hit : ℕ → ℕ → Type 0} → Kept job t → Outcome job t job' t' refusal hit
+    → Kept job' t'
 outcome-kept k (Outcome.accepted e s) = struck-kept s k
 outcome-kept {t' = t'} k (Outcome.refused h e f) =
     subst (λ (j : Job). Kept j t') (sym e) (subst (Kept _) (sym f) k)
 
 -- A cell is filled after the change exactly when it was before and an accepted change did not hit it.
-pub outcome-filled : {job : Job} {t : List ℕ} {job' : Job} {t' : List ℕ} {refusal : ℕ} {hit : ℕ → ℕ → Type 0} → Outcome job t job' t' refusal hit → (u w : ℕ) → OnSheet job' u w → OnSheet job u w × (Filled job' t' u w ↔ (Filled job t u w × (refusal ≡ 0 → hit u w → ⊥)))
+pub outcome-filled : {job : Job} {t : List ℕ} {job' : Job} {t' : List ℕ} {refusal : ℕ} {hit : ℕ → ℕ → Type 0} → Outcome job t job' t' refusal hit → (u w : ℕ)
+    → OnSheet job' u w → OnSheet job u w × (Filled job' t' u w ↔ (Filled job t u w × (refusal ≡ 0 → hit u w → ⊥)))
 outcome-filled (Outcome.accepted e s) u w i =
     (here s u w i, ((λ f. let g = struck-filled s u w i f in (g .0, λ _. g .1)), (λ g x. g .0 (sym (struck-spared s u w i (g .1 e)) ∙ x))))
 outcome-filled {job} {t} {job'} {t'} {refusal} {hit} (Outcome.refused h e f) u w i =

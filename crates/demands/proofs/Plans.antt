@@ -1,7 +1,7 @@
 -- The second half of demand 2: the plan of what was asked.
 use Prim.Native.Nat.{ℕ, suc, _+_, _*_, _≤_}
 use mathlib.Core.List.{List}
-use mathlib.Core.Logic.{_⊎_, inl, inr, ⊎-elim, _↔_}
+use mathlib.Core.Logic.{inl, inr, ⊎-elim, _↔_}
 use mathlib.Core.Path.{_≡_, refl, sym, ap, _∙_, subst}
 use native.Mathlib.Omega.{arith}
 use lib.ListN.{length, take, drop}
@@ -60,24 +60,30 @@ asked-full h x y i n u w j = demand-3-filled h u w (omega arith) .1 (asked-cover
 
 -- DEMAND 2, second half: "Once asked, with no accepted change since and room in the buffer, the plan is written, is such a
 -- dissection and earns that value." Room: the file of the tree for x by y is no longer than the buffer.
-pub demand-2-planned : {job : Job} {t : List ℕ} (h : History job t) (x y : ℕ) → OnSheet job x y → AskedSince h x y → (o : List ℕ) → ((tree : Tree) → TreeFor job t x y tree → length (fileOf job x y tree) ≤ length o) → {r : KhonPlanned} {p : List ℕ} → KhonPlans (blockOf job) t x y o r p → Laid flatPlanned (λ c. PlansBest job x y c p) r
+pub demand-2-planned : {job : Job} {t : List ℕ} (h : History job t) (x y : ℕ) → OnSheet job x y → AskedSince h x y → (o : List ℕ)
+    → ((tree : Tree) → TreeFor job t x y tree → length (fileOf job x y tree) ≤ length o) → {r : KhonPlanned} {p : List ℕ} → KhonPlans (blockOf job) t x y o r p
+    → Laid flatPlanned (λ c. PlansBest job x y c p) r
 demand-2-planned {job} {t} h x y i n o room l =
     let k = history-kept h in
     let full = asked-full h x y i n in
-    record {
-      answer = l .answer;
-      keeps = plan-writes job t (k .usable) (k .best) x y i full o (room _ (best-tree job t (k .usable) (k .best) x y i full)) (plan-exactly job t x y o .1 (with-own (kept-block k) (l .keeps)));
-      laid = l .laid;
-    }
+    let fits = room _ (best-tree job t (k .usable) (k .best) x y i full) in
+    let plan = plan-exactly job t x y o .1 (with-own (kept-block k) (l .keeps)) in
+    record { answer = l .answer; keeps = plan-writes job t (k .usable) (k .best) x y i full o fits plan; laid = l .laid }
 
 -- KHON_PLAN_ENOUGH bytes are always room.
-pub demand-2-enough : {job : Job} {t : List ℕ} (h : History job t) (x y : ℕ) → OnSheet job x y → AskedSince h x y → (o : List ℕ) → planEnough (job .count) x y ≤ length o → {r : KhonPlanned} {p : List ℕ} → KhonPlans (blockOf job) t x y o r p → Laid flatPlanned (λ c. PlansBest job x y c p) r
+pub demand-2-enough : {job : Job} {t : List ℕ} (h : History job t) (x y : ℕ) → OnSheet job x y → AskedSince h x y → (o : List ℕ)
+    → planEnough (job .count) x y ≤ length o → {r : KhonPlanned} {p : List ℕ} → KhonPlans (blockOf job) t x y o r p
+    → Laid flatPlanned (λ c. PlansBest job x y c p) r
 demand-2-enough {job} {t} h x y i n o enough l =
     let k = history-kept h in
-    record { answer = l .answer; keeps = plan-writes-enough job t (k .usable) (k .best) x y i (asked-full h x y i n) o enough (plan-exactly job t x y o .1 (with-own (kept-block k) (l .keeps))); laid = l .laid }
+    let full = asked-full h x y i n in
+    let plan = plan-exactly job t x y o .1 (with-own (kept-block k) (l .keeps)) in
+    record { answer = l .answer; keeps = plan-writes-enough job t (k .usable) (k .best) x y i full o enough plan; laid = l .laid }
 
 -- So what is planned right after a question earns what the question was answered with.
-pub demand-2-same : {job : Job} {t : List ℕ} → History job t → (x y : ℕ) → OnSheet job x y → {a : KhonAsked} {t' : List ℕ} → KhonAsks (blockOf job) t x y a t' → (o : List ℕ) → planEnough (job .count) x y ≤ length o → {r : KhonPlanned} {p : List ℕ} → KhonPlans (blockOf job) t' x y o r p → (r .refusal ≡ 0) × (r .value ≡ a .value)
+pub demand-2-same : {job : Job} {t : List ℕ} → History job t → (x y : ℕ) → OnSheet job x y → {a : KhonAsked} {t' : List ℕ} → KhonAsks (blockOf job) t x y a t'
+    → (o : List ℕ) → planEnough (job .count) x y ≤ length o → {r : KhonPlanned} {p : List ℕ} → KhonPlans (blockOf job) t' x y o r p
+    → (r .refusal ≡ 0) × (r .value ≡ a .value)
 unfolding AskedSince
 demand-2-same h x y i q o enough l =
     let a = demand-2-answered h x y i q in
@@ -86,54 +92,67 @@ demand-2-same h x y i q o enough l =
     (ap (λ (c : KhonPlanned). c .refusal) e, ap (λ (c : KhonPlanned). c .value) e ∙ best-unique (b .keeps .best) (a .1))
 
 -- The number of a plan is the list's.
-plan-number : {job : Job} {t : List ℕ} → History job t → (x y : ℕ) (o : List ℕ) {r : KhonPlanned} {p : List ℕ} → KhonPlans (blockOf job) t x y o r p → (k : ℕ) → r .refusal ≡ suc k → PlanRefusal job t x y (length o) (suc k)
-plan-number {job} {t} h x y o l k e = by (with-own (kept-block (history-kept h)) (l .keeps)) (sym (ap (λ (r : KhonPlanned). r .refusal) (l .laid)) ∙ e)
+plan-refused : {job : Job} {t : List ℕ} → History job t → (x y : ℕ) (o : List ℕ) {r : KhonPlanned} {p : List ℕ} → KhonPlans (blockOf job) t x y o r p → (k : ℕ)
+    → r .refusal ≡ suc k → PlanRefusal job t x y (length o) (suc k)
+plan-refused {job} {t} h x y o l k e = by (with-own (kept-block (history-kept h)) (l .keeps)) (sym (ap (λ (r : KhonPlanned). r .refusal) (l .laid)) ∙ e)
   where
     by : {c : Planned} {p : List ℕ} → Plans job t x y o c p → flatPlanned c .refusal ≡ suc k → PlanRefusal job t x y (length o) (suc k)
     by (Plans.written r b m) z = absurd (omega arith)
     by (Plans.refused {k = j} q) z = subst (PlanRefusal job t x y (length o)) z q
 
 -- "On a table kept so, refusal 7 never arises" for plan either ..
-pub plan-never-seven : {job : Job} {t : List ℕ} → History job t → (x y : ℕ) (o : List ℕ) {r : KhonPlanned} {p : List ℕ} → KhonPlans (blockOf job) t x y o r p → r .refusal ≡ 7 → ⊥
+pub plan-never-seven : {job : Job} {t : List ℕ} → History job t → (x y : ℕ) (o : List ℕ) {r : KhonPlanned} {p : List ℕ} → KhonPlans (blockOf job) t x y o r p
+    → r .refusal ≡ 7 → ⊥
 plan-never-seven {job} {t} h x y o l e =
     let k = history-kept h in
-    never-seven job t (k .usable) (k .best) x y (plan-number h x y o l 6 e) refl
+    never-seven job t (k .usable) (k .best) x y (length o) (plan-refused h x y o l 6 e)
 
 -- .. and refusal 6 only for what was not asked.
-pub plan-six : {job : Job} {t : List ℕ} (h : History job t) (x y : ℕ) (o : List ℕ) → OnSheet job x y → AskedSince h x y → {r : KhonPlanned} {p : List ℕ} → KhonPlans (blockOf job) t x y o r p → r .refusal ≡ 6 → ⊥
+pub plan-six : {job : Job} {t : List ℕ} (h : History job t) (x y : ℕ) (o : List ℕ) → OnSheet job x y → AskedSince h x y → {r : KhonPlanned} {p : List ℕ}
+    → KhonPlans (blockOf job) t x y o r p → r .refusal ≡ 6 → ⊥
 plan-six {job} {t} h x y o i n l e =
     let k = history-kept h in
-    let c = six-empty job t (k .usable) (k .best) x y (plan-number h x y o l 5 e) refl in
-    asked-full h x y i n (c .0) (c .1) (c .2) (c .3)
+    six-empty job t (k .usable) (k .best) x y (length o) (plan-refused h x y o l 5 e) (asked-full h x y i n)
 
 -- A plan that is not refused was written.
-was-written : (job : Job) (t : List ℕ) (x y : ℕ) (o : List ℕ) {d : Planned} {p : List ℕ} → Plans job t x y o d p → flatPlanned d .refusal ≡ 0 → (n : ℕ) × (v : ℕ) × (d ≡ Written n v)
+was-written : (job : Job) (t : List ℕ) (x y : ℕ) (o : List ℕ) {d : Planned} {p : List ℕ} → Plans job t x y o d p → flatPlanned d .refusal ≡ 0
+    → (n : ℕ) × (v : ℕ) × (d ≡ Written n v)
 was-written job t x y o (Plans.written g b h) z = (_, _, refl)
 was-written job t x y o (Plans.refused q) z = absurd (omega arith)
 
-block-written : (block t : List ℕ) (x y : ℕ) (o : List ℕ) {d : Planned} {p : List ℕ} → PlansBlock block t x y o d p → flatPlanned d .refusal ≡ 0 → (n : ℕ) × (v : ℕ) × (d ≡ Written n v) × PlanPromise (jobIn block) t x y o (Written n v) p
+block-written : (block t : List ℕ) (x y : ℕ) (o : List ℕ) {d : Planned} {p : List ℕ} → PlansBlock block t x y o d p → flatPlanned d .refusal ≡ 0
+    → (n : ℕ) × (v : ℕ) × (d ≡ Written n v) × PlanPromise (jobIn block) t x y o (Written n v) p
 block-written block t x y o {p = p} (WithBlock.shaped s a) z =
     let w = was-written (jobIn block) t x y o a z in
     (w .0, w .1, w .2, subst (λ (c : Planned). PlanPromise (jobIn block) t x y o c p) (w .2) (plan-exactly (jobIn block) t x y o .1 a))
 block-written block t x y o (WithBlock.shapeless h) z = absurd (omega arith)
 
 -- Whatever plan writes, on any table and for any block, check accepts: with that value, with no note, and with areas that make x by y.
-pub planned-accepted : (block t : List ℕ) (x y : ℕ) (o : List ℕ) {r : KhonPlanned} {p : List ℕ} → KhonPlans block t x y o r p → r .refusal ≡ 0 → Bytes (take (r .length) p) → {c : KhonChecked} → KhonChecks (take (r .length) p) c → (c .refusal ≡ 0) × (c .value ≡ r .value) × (c .note ≡ 0) × (c .«piece_area» + c .«scrap_area» ≡ x * y)
+pub planned-accepted : (block t : List ℕ) (x y : ℕ) (o : List ℕ) {r : KhonPlanned} {p : List ℕ} → KhonPlans block t x y o r p → r .refusal ≡ 0
+    → Bytes (take (r .length) p) → {c : KhonChecked} → KhonChecks (take (r .length) p) c
+    → (c .refusal ≡ 0) × (c .value ≡ r .value) × (c .note ≡ 0) × (c .«piece_area» + c .«scrap_area» ≡ x * y)
 planned-accepted block t x y o {r} {p} l z bytes {c} m =
     let w = block-written block t x y o (l .keeps) (sym (ap (λ (q : KhonPlanned). q .refusal) (l .laid)) ∙ z) in
     let e : r ≡ flatPlanned (Written (w .0) (w .1)) = l .laid ∙ ap flatPlanned (w .2) in
     let a = plan-checked (jobIn block) t x y o (w .3) in
     let same = m .laid ∙ ap flatChecked (only _ bytes (m .keeps) ∙ (ap (λ (q : KhonPlanned). checked (take (q .length) p)) e ∙ a .answer)) in
-    (ap (λ (k : KhonChecked). k .refusal) same, ap (λ (k : KhonChecked). k .value) same ∙ sym (ap (λ (q : KhonPlanned). q .value) e), ap (λ (k : KhonChecked). k .note) same, ap (λ (k : KhonChecked). k .«piece_area» + k .«scrap_area») same ∙ a .areas)
+    let value = ap (λ (k : KhonChecked). k .value) same ∙ sym (ap (λ (q : KhonPlanned). q .value) e) in
+    let areas = ap (λ (k : KhonChecked). k .«piece_area» + k .«scrap_area») same ∙ a .areas in
+    (ap (λ (k : KhonChecked). k .refusal) same, value, ap (λ (k : KhonChecked). k .note) same, areas)
 
 -- "Bytes after that length stay", and the buffer is as long as before.
-pub planned-stays : (block t : List ℕ) (x y : ℕ) (o : List ℕ) {r : KhonPlanned} {p : List ℕ} → KhonPlans block t x y o r p → (drop (r .length) p ≡ drop (r .length) o) × (length p ≡ length o)
-planned-stays block t x y o {p = p} l = subst (λ (r : KhonPlanned). (drop (r .length) p ≡ drop (r .length) o) × (length p ≡ length o)) (sym (l .laid)) (by (l .keeps))
+pub planned-stays : (block t : List ℕ) (x y : ℕ) (o : List ℕ) {r : KhonPlanned} {p : List ℕ} → KhonPlans block t x y o r p
+    → (drop (r .length) p ≡ drop (r .length) o) × (length p ≡ length o)
+planned-stays block t x y o {p = p} l =
+    subst (λ (r : KhonPlanned). (drop (r .length) p ≡ drop (r .length) o) × (length p ≡ length o)) (sym (l .laid)) (by (l .keeps))
   where
-    plans : {job : Job} {d : Planned} {q : List ℕ} → Plans job t x y o d q → (drop (flatPlanned d .length) q ≡ drop (flatPlanned d .length) o) × (length q ≡ length o)
+    plans : {job : Job} {d : Planned} {q : List ℕ} → Plans job t x y o d q
+        → (drop (flatPlanned d .length) q ≡ drop (flatPlanned d .length) o) × (length q ≡ length o)
     plans {job} (Plans.written {tree} g b room) =
         let file = fileOf job x y tree in
-        (ap (λ (n : ℕ). drop n (put o 0 file)) (sym (zero-add (length file))) ∙ (put-drop o 0 file (omega arith) ∙ ap (λ (n : ℕ). drop n o) (zero-add (length file))), put-length o 0 file (omega arith))
+        let whole = zero-add (length file) in
+        let stays = put-drop o 0 file (omega arith) ∙ ap (λ (n : ℕ). drop n o) whole in
+        (ap (λ (n : ℕ). drop n (put o 0 file)) (sym whole) ∙ stays, put-length o 0 file (omega arith))
     plans (Plans.refused q) = (refl, refl)
 
     by : {d : Planned} {q : List ℕ} → PlansBlock block t x y o d q → (drop (flatPlanned d .length) q ≡ drop (flatPlanned d .length) o) × (length q ≡ length o)
@@ -141,7 +160,8 @@ planned-stays block t x y o {p = p} l = subst (λ (r : KhonPlanned). (drop (r .l
     by (WithBlock.shapeless h) = (refl, refl)
 
 -- DEMAND 2, last sentence: "The checker accepts a plan file exactly when it follows the layout and the rules, whoever wrote it."
-pub demand-2-checked : (file : List ℕ) → Bytes file → {r : KhonChecked} → KhonChecks file r → (a : Answer) → ((r ≡ laidOut a) × (a .number ≡ 0)) ↔ PlanFile file a
+pub demand-2-checked : (file : List ℕ) → Bytes file → {r : KhonChecked} → KhonChecks file r → (a : Answer)
+    → ((r ≡ laidOut a) × (a .number ≡ 0)) ↔ PlanFile file a
 demand-2-checked file bytes {r} l a =
     ((λ h. accepts-exactly file bytes a .0 (same (sym e ∙ h .0), h .1)), (λ f. let g = accepts-exactly file bytes a .1 f in (e ∙ ap laidOut (g .0), g .1)))
   where
@@ -152,9 +172,10 @@ demand-2-checked file bytes {r} l a =
     same f = λ i. record { number = f i .refusal; value = f i .value; note = f i .note; pieceArea = f i .«piece_area»; scrapArea = f i .«scrap_area» }
 
 -- "KHON_PLAN_ENOUGH bytes always hold it": with that room plan is never refused with 8, on any table and for any block.
-pub plan-never-eight : (block t : List ℕ) (x y : ℕ) (o : List ℕ) → planEnough (jobIn block .count) x y ≤ length o → {r : KhonPlanned} {p : List ℕ} → KhonPlans block t x y o r p → r .refusal ≡ 8 → ⊥
+pub plan-never-eight : (block t : List ℕ) (x y : ℕ) (o : List ℕ) → planEnough (jobIn block .count) x y ≤ length o → {r : KhonPlanned} {p : List ℕ}
+    → KhonPlans block t x y o r p → r .refusal ≡ 8 → ⊥
 plan-never-eight block t x y o enough l e = by (demand-1-plan block t x y o l .given) e
   where
     by : {k : ℕ} → BlockRefusal block (λ job. PlanRefusal job t x y (length o)) k → k ≡ 8 → ⊥
     by (BlockRefusal.shapeless h) z = omega arith
-    by (BlockRefusal.shaped s q) z = never-eight (jobIn block) t x y (length o) enough q z
+    by (BlockRefusal.shaped s q) z = never-eight (jobIn block) t x y (length o) enough (subst (PlanRefusal (jobIn block) t x y (length o)) z q)

@@ -6,9 +6,11 @@ use mathlib.Core.Logic.{_⊎_, inl, inr, ⊎-elim, _↔_}
 use mathlib.Core.Path.{_≡_, refl, sym, _∙_, subst}
 use native.Mathlib.Omega.{arith}
 use native.Mathlib.Decide.{ℕ-discrete}
+use Rattle.laws.specs.Refusal.{Gives}
 use Rattle.laws.specs.Inner.{Says}
+use Rattle.laws.proofs.Refusal.{gives-once}
 use Rattle.laws.proofs.Says.{says-false}
-use Rattle.cutting.specs.Piece.{Fits, Inside, Lays}
+use Rattle.cutting.specs.Piece.{Fits, Inside}
 use Rattle.cutting.specs.Candidate.{Worth}
 use Rattle.cutting.proofs.Rule.{table-best}
 use Rattle.cutting.proofs.Bound.{best-bound}
@@ -19,12 +21,12 @@ use Rattle.cells.proofs.Emptied.{fits-says}
 use Rattle.fill.specs.Filled.{Fills, Bounded}
 use Rattle.fill.proofs.Filled.{most-fits}
 use Rattle.job.specs.declared.Job.{Job}
-use Rattle.job.specs.Job.{piecesOf}
+use Rattle.job.specs.Job.{layOf}
 use Rattle.job.specs.Block.{blockOf}
 use Rattle.desk.specs.declared.Asked.{Asked}
-use Rattle.desk.specs.Refusals.{AskRefusal}
+use Rattle.desk.specs.Refusals.{askRefusals, AskRefusal}
 use Rattle.desk.specs.Asking.{Asks}
-use Rattle.desk.proofs.Exactly.{ask-only}
+use Rattle.desk.proofs.Exactly.{ask-number}
 use Rattle.desk.proofs.Granted.{ask-granted}
 use Rattle.khonvertseg.specs.declared.KhonAsked.{KhonAsked}
 use Rattle.khonvertseg.specs.Flat.{flatAsked}
@@ -33,20 +35,22 @@ use Rattle.demands.specs.History.{cell, Filled, OnSheet, BestFor}
 use Rattle.demands.proofs.Outcome.{Kept, Own, kept-block}
 
 -- A call with a job's own block is that call on the job.
-pub with-own : {job : Job} → Own job → {A : Type 0} {call : Job → A → List ℕ → Type 0} {no r : A} {lent left : List ℕ} → WithBlock (blockOf job) call no lent r left → call job r left
+pub with-own : {job : Job} → Own job → {A : Type 0} {call : Job → A → List ℕ → Type 0} {no r : A} {lent left : List ℕ}
+    → WithBlock (blockOf job) call no lent r left → call job r left
 with-own own {call = call} {r = r} {left = left} (WithBlock.shaped s c) = subst (λ (j : Job). call j r left) (own .1) c
 with-own own (WithBlock.shapeless h) = absurd (h (own .0))
 
 -- What a question comes to: it fills its box and says the cell and the count, or it is refused and leaves the table.
 pub data Question (job : Job) (t : List ℕ) (x y : ℕ) (r : KhonAsked) (t' : List ℕ) : Type 0 where
-  answered : r .refusal ≡ 0 → OnSheet job x y → Fills (Lays (piecesOf job)) (job .width) (job .height) x y t t' → r .value ≡ cell job t' x y → r .worked ≡ countInBox x y (isEmpty (job .width) t) → Question job t x y r t'
+  answered : r .refusal ≡ 0 → OnSheet job x y → Fills (layOf job) (job .width) (job .height) x y t t' → r .value ≡ cell job t' x y
+      → r .worked ≡ countInBox x y (isEmpty (job .width) t) → Question job t x y r t'
   refused : (r .refusal ≡ 0 → ⊥) → AskRefusal job t x y (r .refusal) → r .value ≡ 0 → r .worked ≡ 0 → t' ≡ t → Question job t x y r t'
 
 pub question : {job : Job} {t : List ℕ} → Kept job t → (x y : ℕ) {r : KhonAsked} {t' : List ℕ} → KhonAsks (blockOf job) t x y r t' → Question job t x y r t'
 question {job} {t} k x y {t' = t'} l = subst (λ (r : KhonAsked). Question job t x y r t') (sym (l .laid)) (by (with-own (kept-block k) (l .keeps)))
   where
     by : {c : Asked} {l' : List ℕ} → Asks job t x y c l' → Question job t x y (flatAsked c) l'
-    by (Asks.answered q f) = Question.answered refl (ask-granted job t x y (ask-only job t x y q) refl .inside) f refl refl
+    by (Asks.answered q f) = Question.answered refl (ask-granted job t x y (ask-number job t x y .0 q) refl .inside) f refl refl
     by (Asks.refused q) = Question.refused (λ z. omega arith) q refl refl refl
 
 module _ (job : Job) (t : List ℕ) (kept : Kept job t) where
@@ -56,17 +60,22 @@ module _ (job : Job) (t : List ℕ) (kept : Kept job t) where
 
   -- So a question inside the sheet is not refused.
   pub kept-answered : (x y : ℕ) → OnSheet job x y → {k : ℕ} → AskRefusal job t x y k → k ≡ 0
-  kept-answered x y i q = ask-only job t x y q ∙ sym (ask-only job t x y (AskRefusal.none (kept .usable) i (kept-bounded x y i)))
+  unfolding Gives askRefusals
+  kept-answered x y i {k} q =
+      let u = kept .usable in
+      gives-once (askRefusals job t x y) k 0 q (inr (u .range, inr (u .room, inr (i, inr (kept-bounded x y i, refl)))))
 
-  module _ (x y : ℕ) (i : OnSheet job x y) {after : List ℕ} (f : Fills (Lays (piecesOf job)) (job .width) (job .height) x y t after) where
+  module _ (x y : ℕ) (i : OnSheet job x y) {after : List ℕ} (f : Fills (layOf job) (job .width) (job .height) x y t after) where
     -- Every cell of the box then holds its best value.
     pub box-best : (u w : ℕ) → Inside u w x y → BestFor job u w (cell job after u w)
-    box-best = table-best (Lays (piecesOf job)) (kept .usable .range .pieces) (job .width) (job .height) (cell job after) x y (i .widthMost) (i .heightMost) each
+    box-best = table-best (layOf job) (kept .usable .range .pieces) (job .width) (job .height) (cell job after) x y (i .widthMost) (i .heightMost) each
       where
-        each : (u w : ℕ) → Inside u w x y → Worth (Lays (piecesOf job)) (job .width) (job .height) (cell job after) u w (cell job after u w) ⊎ BestFor job u w (cell job after u w)
+        each : (u w : ℕ) → Inside u w x y
+            → Worth (layOf job) (job .width) (job .height) (cell job after) u w (cell job after u w) ⊎ BestFor job u w (cell job after u w)
         each u w j = by (ℕ-discrete (cell job t u w) empty)
           where
-            by : Dec (cell job t u w ≡ empty) → Worth (Lays (piecesOf job)) (job .width) (job .height) (cell job after) u w (cell job after u w) ⊎ BestFor job u w (cell job after u w)
+            by : Dec (cell job t u w ≡ empty)
+                → Worth (layOf job) (job .width) (job .height) (cell job after) u w (cell job after u w) ⊎ BestFor job u w (cell job after u w)
             by (yes e) = inl (f .worked u w j e)
             by (no h) = inr (subst (BestFor job u w) (sym (f .stayed u w j h)) (kept .best u w (omega arith) h))
 

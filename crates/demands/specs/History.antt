@@ -5,14 +5,14 @@ use mathlib.Core.List.{List}
 use mathlib.Core.Logic.{_⊎_}
 use mathlib.Core.Path.{_≡_}
 use lib.ListN.{length}
-use Rattle.cutting.specs.Piece.{Fits, Inside, Lays}
+use Rattle.cutting.specs.Piece.{Fits, Inside}
 use Rattle.cutting.specs.Dissection.{Best}
 use Rattle.cells.specs.Cells.{empty, cellOf}
 use Rattle.job.specs.declared.Piece.{Piece as Record}
 use Rattle.job.specs.declared.Job.{Job}
-use Rattle.job.specs.Job.{piecesOf}
+use Rattle.job.specs.Job.{layOf}
 use Rattle.job.specs.Block.{blockOf}
-use Rattle.desk.specs.Refusals.{area}
+use Rattle.desk.specs.Refusals.{cellsOf}
 use Rattle.desk.specs.Changing.{recordOfPiece, SizeFits}
 use Rattle.khonvertseg.specs.declared.KhonChanged.{KhonChanged}
 use Rattle.khonvertseg.specs.declared.KhonAsked.{KhonAsked}
@@ -32,12 +32,12 @@ OnSheet job u w = Inside u w (job .width) (job .height)
 
 -- v is the best value of u by w "for the pieces as they stand".
 abbrev pub BestFor : Job → ℕ → ℕ → ℕ → Type 0
-BestFor job u w v = Best (Lays (piecesOf job)) u w v
+BestFor job u w v = Best (layOf job) u w v
 
 -- "Entries beyond a·b are no cells of the sheet .. and demand 3 doesn't speak of them": the caller may keep his own data there. The row
 -- t' has the cells of t, and whatever else.
 pub record SameSheet (job : Job) (t t' : List ℕ) : Type 0 where
-  pub room : area job ≤ length t'
+  pub room : cellsOf job ≤ length t'
   pub cells : (u w : ℕ) → OnSheet job u w → cell job t' u w ≡ cell job t u w
 
 -- A history that ends with this job and this table.

@@ -1,5 +1,6 @@
 -- "Sheets to try", as scripts of calls on an opened sheet, with what each call is to say, and the best value as the definition has it.
 use Prim.Native.Nat.{ℕ}
+use mathlib.Core.Bool.{true, false}
 use mathlib.Core.List.{List, [], _∷_, _++_}
 use mathlib.Core.Path.{_≡_}
 use lib.ListN.{length, take, set}
@@ -19,14 +20,14 @@ use Rattle.khonvertseg.specs.declared.KhonPlanned.{KhonPlanned}
 use Rattle.khonvertseg.specs.declared.KhonChecked.{KhonChecked}
 use Rattle.khonvertseg.specs.Calls.{KhonOpens, KhonAdds, KhonCorrects, KhonRemoves, KhonAsks, KhonPlans, KhonChecks}
 
-pub data Step : Type 0 where
-  add : Piece → Step
-  correct : ℕ → Piece → Step
-  remove : ℕ → Step
-  ask : ℕ → ℕ → Step
+pub data ScriptStep : Type 0 where
+  add : Piece → ScriptStep
+  correct : ℕ → Piece → ScriptStep
+  remove : ℕ → ScriptStep
+  ask : ℕ → ℕ → ScriptStep
   -- into a buffer of so many bytes
-  plan : ℕ → ℕ → ℕ → Step
-  check : List ℕ → Step
+  plan : ℕ → ℕ → ℕ → ScriptStep
+  check : List ℕ → ScriptStep
 
 -- What a call says, how many cells of the sheet are empty after it, and the file that it wrote.
 pub record Said : Type 0 where
@@ -60,27 +61,34 @@ abbrev pub saidOfCheck : Job → List ℕ → KhonChecked → Said
 saidOfCheck job t r = said (r .refusal) (r .value) 0 (emptyCells job t)
 
 -- The steps, called one after the other by a library that keeps the promises, said this.
-pub data Runs : Job → List ℕ → List Step → List Said → Type 0 where
+pub data Runs : Job → List ℕ → List ScriptStep → List Said → Type 0 where
   done : {job : Job} {t : List ℕ} → Runs job t [] []
-  add : {job : Job} {t t' : List ℕ} {r : KhonChanged} {steps : List Step} {sayings : List Said} (piece : Piece) → KhonAdds job t (recordOf piece) r t' → Runs (r .job) t' steps sayings → Runs job t (Step.add piece ∷ steps) (saidOfChange r t' ∷ sayings)
-  correct : {job : Job} {t t' : List ℕ} {r : KhonChanged} {steps : List Step} {sayings : List Said} (k : ℕ) (piece : Piece) → KhonCorrects job t k (recordOf piece) r t' → Runs (r .job) t' steps sayings → Runs job t (Step.correct k piece ∷ steps) (saidOfChange r t' ∷ sayings)
-  remove : {job : Job} {t t' : List ℕ} {r : KhonChanged} {steps : List Step} {sayings : List Said} (k : ℕ) → KhonRemoves job t k r t' → Runs (r .job) t' steps sayings → Runs job t (Step.remove k ∷ steps) (saidOfChange r t' ∷ sayings)
-  ask : {job : Job} {t t' : List ℕ} {r : KhonAsked} {steps : List Step} {sayings : List Said} (x y : ℕ) → KhonAsks (blockOf job) t x y r t' → Runs job t' steps sayings → Runs job t (Step.ask x y ∷ steps) (saidOfAnswer job r t' ∷ sayings)
-  plan : {job : Job} {t o' : List ℕ} {r : KhonPlanned} {steps : List Step} {sayings : List Said} (x y room : ℕ) (o : List ℕ) → length o ≡ room → KhonPlans (blockOf job) t x y o r o' → Runs job t steps sayings → Runs job t (Step.plan x y room ∷ steps) (saidOfPlan job t r o' ∷ sayings)
-  check : {job : Job} {t : List ℕ} {r : KhonChecked} {steps : List Step} {sayings : List Said} (file : List ℕ) → Bytes file → KhonChecks file r → Runs job t steps sayings → Runs job t (Step.check file ∷ steps) (saidOfCheck job t r ∷ sayings)
+  add : {job : Job} {t t' : List ℕ} {r : KhonChanged} {steps : List ScriptStep} {sayings : List Said} (piece : Piece) → KhonAdds job t (recordOf piece) r t'
+      → Runs (r .job) t' steps sayings → Runs job t (ScriptStep.add piece ∷ steps) (saidOfChange r t' ∷ sayings)
+  correct : {job : Job} {t t' : List ℕ} {r : KhonChanged} {steps : List ScriptStep} {sayings : List Said} (k : ℕ) (piece : Piece)
+      → KhonCorrects job t k (recordOf piece) r t' → Runs (r .job) t' steps sayings
+      → Runs job t (ScriptStep.correct k piece ∷ steps) (saidOfChange r t' ∷ sayings)
+  remove : {job : Job} {t t' : List ℕ} {r : KhonChanged} {steps : List ScriptStep} {sayings : List Said} (k : ℕ) → KhonRemoves job t k r t'
+      → Runs (r .job) t' steps sayings → Runs job t (ScriptStep.remove k ∷ steps) (saidOfChange r t' ∷ sayings)
+  ask : {job : Job} {t t' : List ℕ} {r : KhonAsked} {steps : List ScriptStep} {sayings : List Said} (x y : ℕ) → KhonAsks (blockOf job) t x y r t'
+      → Runs job t' steps sayings → Runs job t (ScriptStep.ask x y ∷ steps) (saidOfAnswer job r t' ∷ sayings)
+  plan : {job : Job} {t o' : List ℕ} {r : KhonPlanned} {steps : List ScriptStep} {sayings : List Said} (x y room : ℕ) (o : List ℕ) → length o ≡ room
+      → KhonPlans (blockOf job) t x y o r o' → Runs job t steps sayings → Runs job t (ScriptStep.plan x y room ∷ steps) (saidOfPlan job t r o' ∷ sayings)
+  check : {job : Job} {t : List ℕ} {r : KhonChecked} {steps : List ScriptStep} {sayings : List Said} (file : List ℕ) → Bytes file → KhonChecks file r
+      → Runs job t steps sayings → Runs job t (ScriptStep.check file ∷ steps) (saidOfCheck job t r ∷ sayings)
 
 -- A sheet, what is called on it once it is opened, what is to be said, and the best value of x by y with the pieces that it has at the end.
 pub record Sheet : Type 0 where
   pub width : ℕ
   pub height : ℕ
-  pub steps : List Step
+  pub steps : List ScriptStep
   pub sayings : List Said
   pub x : ℕ
   pub y : ℕ
   pub best : ℕ
 
 -- A row of the table: the sheet's sides, the steps, what is said; the question at the end and its best value.
-abbrev pub sheet : ℕ → ℕ → List Step → List Said → ℕ → ℕ → ℕ → Sheet
+abbrev pub sheet : ℕ → ℕ → List ScriptStep → List Said → ℕ → ℕ → ℕ → Sheet
 sheet width height steps sayings x y best = record { width = width; height = height; steps = steps; sayings = sayings; x = x; y = y; best = best }
 
 -- The plan file of a tree on a whole sheet with these pieces.
@@ -88,8 +96,8 @@ abbrev pub sheetFile : ℕ → ℕ → List Piece → Tree → List ℕ
 sheetFile a b pieces tree = fileOf (jobOf a b pieces) a b tree
 
 -- "K1: stock 3 by 3, pieces 1 by 2 value 2, 2 by 3 value 6 (..): 8." Document 01 lists its tree.
-abbrev pub k1Asked : List Step
-k1Asked = Step.add (sized 1 2 2) ∷ Step.add (sized 2 3 6) ∷ Step.ask 3 3 ∷ []
+abbrev pub k1Asked : List ScriptStep
+k1Asked = ScriptStep.add (sized 1 2 2) ∷ ScriptStep.add (sized 2 3 6) ∷ ScriptStep.ask 3 3 ∷ []
 
 abbrev pub k1Said : List Said
 k1Said = said 0 0 0 9 ∷ said 0 0 0 9 ∷ said 0 8 9 0 ∷ []
@@ -97,15 +105,16 @@ k1Said = said 0 0 0 9 ∷ said 0 0 0 9 ∷ said 0 8 9 0 ∷ []
 abbrev pub K1 : Sheet
 K1 =
     sheet 3 3
-    (k1Asked ++ (Step.plan 3 3 100 ∷ []))
-    (k1Said ++ (wrote 8 (sheetFile 3 3 (sized 1 2 2 ∷ sized 2 3 6 ∷ []) (Tree.lineV 1 (Tree.lineH 2 (Tree.pieceP 1) Tree.scrapS) (Tree.pieceP 2))) ∷ []))
+    (k1Asked ++ (ScriptStep.plan 3 3 100 ∷ []))
+    (k1Said
+    ++ (wrote 8 (sheetFile 3 3 (sized 1 2 2 ∷ sized 2 3 6 ∷ []) (Tree.line false 1 (Tree.line true 2 (Tree.pieceP 1) Tree.scrapS) (Tree.pieceP 2))) ∷ []))
     3 3 8
 
 -- "K2: K1 asked, then piece 2 corrected to 2 by 2 value 4: exactly four cells emptied; asking 3 by 3 gives 6, four worked out."
 abbrev pub K2 : Sheet
 K2 =
     sheet 3 3
-    (k1Asked ++ (Step.correct 2 (sized 2 2 4) ∷ Step.ask 3 3 ∷ []))
+    (k1Asked ++ (ScriptStep.correct 2 (sized 2 2 4) ∷ ScriptStep.ask 3 3 ∷ []))
     (k1Said ++ (said 0 0 0 4 ∷ said 0 6 4 0 ∷ []))
     3 3 6
 
@@ -113,19 +122,21 @@ K2 =
 abbrev pub K3 : Sheet
 K3 =
     sheet 3 3
-    (k1Asked ++ (Step.correct 2 (sized 2 2 4) ∷ Step.ask 1 3 ∷ []))
+    (k1Asked ++ (ScriptStep.correct 2 (sized 2 2 4) ∷ ScriptStep.ask 1 3 ∷ []))
     (k1Said ++ (said 0 0 0 4 ∷ said 0 2 0 4 ∷ []))
     1 3 2
 
 -- "K4: no pieces, 1 by 1: 0. Its file, in hex: 01 00 01 00 00 00 53 00 00 09 00 00 00 03 00 00 00 00 00 00 00 3C F5 29 6E."
 abbrev pub k4 : List ℕ
-k4 = 0x01 ∷ 0x00 ∷ 0x01 ∷ 0x00 ∷ 0x00 ∷ 0x00 ∷ 0x53 ∷ 0x00 ∷ 0x00 ∷ 0x09 ∷ 0x00 ∷ 0x00 ∷ 0x00 ∷ 0x03 ∷ 0x00 ∷ 0x00 ∷ 0x00 ∷ 0x00 ∷ 0x00 ∷ 0x00 ∷ 0x00 ∷ 0x3C ∷ 0xF5 ∷ 0x29 ∷ 0x6E ∷ []
+k4 =
+    0x01 ∷ 0x00 ∷ 0x01 ∷ 0x00 ∷ 0x00 ∷ 0x00 ∷ 0x53 ∷ 0x00 ∷ 0x00 ∷ 0x09 ∷ 0x00 ∷ 0x00 ∷ 0x00
+    ∷ 0x03 ∷ 0x00 ∷ 0x00 ∷ 0x00 ∷ 0x00 ∷ 0x00 ∷ 0x00 ∷ 0x00 ∷ 0x3C ∷ 0xF5 ∷ 0x29 ∷ 0x6E ∷ []
 
 -- "K9: K4's file without its last byte: 9." "K10: K4's file with its first byte 2: 10."
 abbrev pub K4K9K10 : Sheet
 K4K9K10 =
     sheet 1 1
-    (Step.ask 1 1 ∷ Step.plan 1 1 25 ∷ Step.check k4 ∷ Step.check (take 24 k4) ∷ Step.check (set k4 0 2) ∷ [])
+    (ScriptStep.ask 1 1 ∷ ScriptStep.plan 1 1 25 ∷ ScriptStep.check k4 ∷ ScriptStep.check (take 24 k4) ∷ ScriptStep.check (set k4 0 2) ∷ [])
     (said 0 0 1 0 ∷ wrote 0 k4 ∷ said 0 0 0 0 ∷ said 9 0 0 0 ∷ said 10 0 0 0 ∷ [])
     1 1 0
 
@@ -133,15 +144,16 @@ K4K9K10 =
 abbrev pub K5 : Sheet
 K5 =
     sheet 3 3
-    (Step.add (sized 2 2 5) ∷ Step.ask 3 3 ∷ Step.plan 3 3 100 ∷ [])
-    (said 0 0 0 9 ∷ said 0 5 9 0 ∷ wrote 5 (sheetFile 3 3 (sized 2 2 5 ∷ []) (Tree.lineV 2 (Tree.lineH 2 (Tree.pieceP 1) Tree.scrapS) Tree.scrapS)) ∷ [])
+    (ScriptStep.add (sized 2 2 5) ∷ ScriptStep.ask 3 3 ∷ ScriptStep.plan 3 3 100 ∷ [])
+    (said 0 0 0 9 ∷ said 0 5 9 0
+    ∷ wrote 5 (sheetFile 3 3 (sized 2 2 5 ∷ []) (Tree.line false 2 (Tree.line true 2 (Tree.pieceP 1) Tree.scrapS) Tree.scrapS)) ∷ [])
     3 3 5
 
 -- "K6: 5 by 4, same piece: 20."
 abbrev pub K6 : Sheet
 K6 =
     sheet 5 4
-    (Step.add (sized 2 2 5) ∷ Step.ask 5 4 ∷ [])
+    (ScriptStep.add (sized 2 2 5) ∷ ScriptStep.ask 5 4 ∷ [])
     (said 0 0 0 20 ∷ said 0 20 20 0 ∷ [])
     5 4 20
 
@@ -149,7 +161,7 @@ K6 =
 abbrev pub K7 : Sheet
 K7 =
     sheet 1 2
-    (Step.add (sized 2 1 1) ∷ Step.ask 1 2 ∷ [])
+    (ScriptStep.add (sized 2 1 1) ∷ ScriptStep.ask 1 2 ∷ [])
     (said 0 0 0 2 ∷ said 0 0 2 0 ∷ [])
     1 2 0
 
@@ -157,7 +169,7 @@ K7 =
 abbrev pub K8 : Sheet
 K8 =
     sheet 2 3
-    (Step.add (sized 2 3 6) ∷ Step.ask 2 3 ∷ Step.plan 2 3 100 ∷ [])
+    (ScriptStep.add (sized 2 3 6) ∷ ScriptStep.ask 2 3 ∷ ScriptStep.plan 2 3 100 ∷ [])
     (said 0 0 0 6 ∷ said 0 6 6 0 ∷ wrote 6 (sheetFile 2 3 (sized 2 3 6 ∷ []) (Tree.pieceP 1)) ∷ [])
     2 3 6
 
@@ -165,19 +177,20 @@ abbrev pub sheets : List Sheet
 sheets = K1 ∷ K2 ∷ K3 ∷ K4K9K10 ∷ K5 ∷ K6 ∷ K7 ∷ K8 ∷ []
 
 -- The pieces after these steps.
-unfoldable pub piecesAfter : List Piece → List Step → List Piece
+unfoldable pub piecesAfter : List Piece → List ScriptStep → List Piece
 piecesAfter pieces [] = pieces
-piecesAfter pieces (Step.add piece ∷ steps) = piecesAfter (added pieces piece) steps
-piecesAfter pieces (Step.correct k piece ∷ steps) = piecesAfter (corrected pieces k piece) steps
-piecesAfter pieces (Step.remove k ∷ steps) = piecesAfter (removed pieces k) steps
-piecesAfter pieces (Step.ask x y ∷ steps) = piecesAfter pieces steps
-piecesAfter pieces (Step.plan x y room ∷ steps) = piecesAfter pieces steps
-piecesAfter pieces (Step.check file ∷ steps) = piecesAfter pieces steps
+piecesAfter pieces (ScriptStep.add piece ∷ steps) = piecesAfter (added pieces piece) steps
+piecesAfter pieces (ScriptStep.correct k piece ∷ steps) = piecesAfter (corrected pieces k piece) steps
+piecesAfter pieces (ScriptStep.remove k ∷ steps) = piecesAfter (removed pieces k) steps
+piecesAfter pieces (ScriptStep.ask x y ∷ steps) = piecesAfter pieces steps
+piecesAfter pieces (ScriptStep.plan x y room ∷ steps) = piecesAfter pieces steps
+piecesAfter pieces (ScriptStep.check file ∷ steps) = piecesAfter pieces steps
 
 -- Any library that keeps the promises says of the sheet what is stated, whatever the table held before; and the best value that is
 -- stated is the best value.
-pub record Holds (s : Sheet) : Type 0 where
-  pub said : (t t' : List ℕ) (r : KhonChanged) (sayings : List Said) → KhonOpens (s .width) (s .height) t r t' → r .refusal ≡ 0 → Runs (r .job) t' (s .steps) sayings → sayings ≡ s .sayings
+pub record SheetKept (s : Sheet) : Type 0 where
+  pub said : (t t' : List ℕ) (r : KhonChanged) (sayings : List Said) → KhonOpens (s .width) (s .height) t r t' → r .refusal ≡ 0
+      → Runs (r .job) t' (s .steps) sayings → sayings ≡ s .sayings
   pub best : Best (Lays (piecesAfter [] (s .steps))) (s .x) (s .y) (s .best)
 
 -- Each sheet of a list.

@@ -1,57 +1,51 @@
--- The rows that are made of a job hold its pieces and the marks of its P and Q.
-use Prim.Native.Nat.{ℕ, _≤_, _<_}
+-- The board of a job serves the filling: what is worked out from it is the worth, and its box can be filled.
+use Prim.Native.Nat.{ℕ, _≤_}
 use mathlib.Core.List.{List}
 use mathlib.Core.Path.{_≡_, sym, ap, _∙_, subst}
-use mathlib.Core.Logic.{_↔_}
 use native.Mathlib.Omega.{arith}
-use lib.ListN.{length, getD}
-use Rattle.cutting.specs.Limits.{sideMax, piecesMax}
-use Rattle.cutting.specs.Piece.{Piece, noPiece, Lays, Turned}
-use Rattle.cutting.specs.Points.{Width}
-use Rattle.cutting.proofs.Listed.{lays-listed, listed-lays}
-use Rattle.points.specs.Inner.{Size, rowsOf}
-use Rattle.points.proofs.Points.{marks-say}
-use Rattle.fill.proofs.Worth.{Hold}
+use Rattle.cutting.specs.Limits.{piecesMax}
+use Rattle.cutting.specs.Piece.{Inside}
+use Rattle.cells.specs.Cells.{cellOf}
+use Rattle.cells.specs.Box.{isEmpty, countInBox}
+use Rattle.board.specs.Inner.{entries, widthOn, heightOn, countOn, rowsOn, boardOf}
+use Rattle.board.proofs.Holds.{row-lays, board-width, board-height, board-count, board-listed, board-holds}
+use Rattle.fill.specs.Filled.{Bounded}
+use Rattle.fill.specs.Inner.{filled, Valued, BoxReady}
+use Rattle.fill.proofs.Worth.{GivesWorth, worthOf-worth}
 use Rattle.job.specs.declared.Job.{Job}
-use Rattle.job.specs.Job.{piecesOf}
+use Rattle.job.specs.Job.{piecesOf, layOf}
 use Rattle.job.specs.Range.{JobInRange}
-use Rattle.job.specs.Inner.{rowOf}
-use Rattle.job.proofs.Pieces.{pieces-length}
-use Rattle.job.proofs.Rows.{row-at}
-use Rattle.desk.specs.Inner.{rowsOfPieces, jobRows}
+use Rattle.desk.specs.Refusals.{Usable}
+use Rattle.desk.specs.Inner.{jobRows, filledFor}
+use Rattle.desk.proofs.Exactly.{usable-holds}
 
-module _ (pieces : List Piece) (few : length pieces ≤ piecesMax) where
-  -- What stands at an index of a row.
-  at : (number : Piece → ℕ) (k : ℕ) → k < length pieces → getD (rowOf number pieces) k 0 ≡ number (getD pieces k noPiece)
-  at number k h = row-at number pieces k (omega arith)
-
-  -- The widths of the pieces are the sizes of the row of widths; turned, the heights likewise.
-  widths : (p : ℕ) → Width (Lays pieces) p ↔ Size (λ k. getD (rowOf (λ r. r .width) pieces) k 0) (length pieces) p
-  widths p = (
-    (λ w. let t = lays-listed (w .lies) in record { index = t .0; among = t .1 .within; equal = at (λ r. r .width) (t .0) (t .1 .within) ∙ ap (λ (r : Piece). r .width) (t .1 .is) }),
-    (λ s. record { height = getD pieces (s .index) noPiece .height; value = getD pieces (s .index) noPiece .value; lies = listed-lays {i = s .index} (record { within = s .among; is = λ i. record { width = (sym (at (λ r. r .width) (s .index) (s .among)) ∙ s .equal) i; height = getD pieces (s .index) noPiece .height; value = getD pieces (s .index) noPiece .value } }) }),
-  )
-
-  heights : (q : ℕ) → Width (Turned (Lays pieces)) q ↔ Size (λ k. getD (rowOf (λ r. r .height) pieces) k 0) (length pieces) q
-  heights q = (
-    (λ w. let t = lays-listed (w .lies) in record { index = t .0; among = t .1 .within; equal = at (λ r. r .height) (t .0) (t .1 .within) ∙ ap (λ (r : Piece). r .height) (t .1 .is) }),
-    (λ s. record { height = getD pieces (s .index) noPiece .width; value = getD pieces (s .index) noPiece .value; lies = listed-lays {i = s .index} (record { within = s .among; is = λ i. record { width = getD pieces (s .index) noPiece .width; height = (sym (at (λ r. r .height) (s .index) (s .among)) ∙ s .equal) i; value = getD pieces (s .index) noPiece .value } }) }),
-  )
-
-  -- The rows hold the pieces, and the marks say P and Q.
-  pub rows-hold : (a b : ℕ) → a ≤ sideMax → b ≤ sideMax → Hold (rowsOfPieces pieces (length pieces) a b) (Lays pieces) a b
-  unfolding rowsOfPieces rowsOf
-  rows-hold a b h k =
-      record {
-        listed = λ p q v l. let t = lays-listed l in record { index = t .0; below = t .1 .within; width = at (λ r. r .width) (t .0) (t .1 .within) ∙ ap (λ (r : Piece). r .width) (t .1 .is); height = at (λ r. r .height) (t .0) (t .1 .within) ∙ ap (λ (r : Piece). r .height) (t .1 .is); value = at (λ r. r .value) (t .0) (t .1 .within) ∙ ap (λ (r : Piece). r .value) (t .1 .is) };
-        lies = λ i l. listed-lays {i = i} (record { within = l; is = λ j. record { width = sym (at (λ r. r .width) i l) j; height = sym (at (λ r. r .height) i l) j; value = sym (at (λ r. r .value) i l) j } });
-        marksP = λ c l. marks-say (Lays pieces) _ (length pieces) a c widths (omega arith);
-        marksQ = λ d l. marks-say (Turned (Lays pieces)) _ (length pieces) b d heights (omega arith);
-      }
-
--- So do those of a job in range.
-pub job-hold : (job : Job) → JobInRange job → Hold (jobRows job) (Lays (piecesOf job)) (job .width) (job .height)
+pub job-hold : (job : Job) → JobInRange job → GivesWorth (jobRows job) (layOf job) (job .width) (job .height)
 unfolding jobRows
-job-hold job r =
-    subst (λ (n : ℕ). Hold (rowsOfPieces (piecesOf job) n (job .width) (job .height)) (Lays (piecesOf job)) (job .width) (job .height)) (pieces-length job)
-    (rows-hold (piecesOf job) (omega (arith, pieces-length job, r .countMost)) (job .width) (job .height) (r .widthMost) (r .heightMost))
+job-hold job r = worthOf-worth (rowsOn (boardOf job)) (piecesOf job) (job .width) (job .height) (board-holds job r)
+
+-- The values of a job in range are in range.
+valued : (job : Job) → JobInRange job → Valued (rowsOn (boardOf job))
+valued job r k h = r .pieces _ _ _ (row-lays (board-listed job (r .countMost)) k h) .valueMost
+
+pub box-ready : (job : Job) (t : List ℕ) (x y : ℕ) {board : List ℕ}
+    → Usable job t → Inside x y (job .width) (job .height) → Bounded (cellOf (job .width) t) x y → board ≡ boardOf job
+    → BoxReady (rowsOn board) (widthOn board) (heightOn board) x y t × (countOn board ≤ entries)
+box-ready job t x y u i bounded e =
+    subst (λ (b : List ℕ). BoxReady (rowsOn b) (widthOn b) (heightOn b) x y t × (countOn b ≤ entries)) (sym e)
+    (rw (board-width job few, board-height job few) ready, omega (arith, board-count job few))
+  where
+    few : job .count ≤ piecesMax
+    few = u .range .countMost
+
+    ready : BoxReady (rowsOn (boardOf job)) (job .width) (job .height) x y t
+    ready = record { holds = usable-holds job t u; inside = i; bounded = bounded; valued = valued job (u .range) }
+
+-- What the box holds once it is filled.
+pub box-filled : (job : Job) (t : List ℕ) (x y : ℕ) {r : ℕ} {board t' : List ℕ} → JobInRange job → board ≡ boardOf job
+    → r ≡ countInBox x y (isEmpty (widthOn board) t) → t' ≡ filled (rowsOn board) (widthOn board) (heightOn board) x y t
+    → (r ≡ countInBox x y (isEmpty (job .width) t)) × (t' ≡ filledFor job t x y)
+unfolding filledFor jobRows
+box-filled job t x y {board = board} range e h k =
+    let wide : widthOn board ≡ job .width = ap widthOn e ∙ board-width job (range .countMost) in
+    let high : heightOn board ≡ job .height = ap heightOn e ∙ board-height job (range .countMost) in
+    (h ∙ ap (λ (m : ℕ). countInBox x y (isEmpty m t)) wide, k ∙ (λ i. filled (rowsOn (e i)) (wide i) (high i) x y t))

@@ -1,5 +1,4 @@
 -- Refusals exactly when, what each call answers, and that the promises say the document's words.
-pub mod Chain
 pub mod Exactly
 pub mod Answers
 pub mod Granted

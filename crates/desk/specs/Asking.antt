@@ -4,9 +4,8 @@ use mathlib.Core.List.{List}
 use Rattle.cells.specs.Cells.{cellOf}
 use Rattle.cells.specs.Box.{isEmpty, countInBox}
 use Rattle.fill.specs.Filled.{Fills}
-use Rattle.cutting.specs.Piece.{Lays}
 use Rattle.job.specs.declared.Job.{Job}
-use Rattle.job.specs.Job.{piecesOf}
+use Rattle.job.specs.Job.{layOf}
 use Rattle.desk.specs.declared.Asked.{Asked}
 use Rattle.desk.specs.declared.Asked.the-variants.{Answered, Refused}
 use Rattle.desk.specs.Refusals.{AskRefusal}
@@ -25,6 +24,7 @@ askedNumbers (Refused refusal) = record { refusal = refusal; value = 0; worked =
 -- What the question x by y on a job and the table t answers, and what the table holds then.
 pub data Asks (job : Job) (t : List ℕ) (x y : ℕ) : Asked → List ℕ → Type 0 where
   -- "The answer is cell (x, y) and the number of cells worked out, which is the number that were empty in that box before."
-  answered : {t' : List ℕ} → AskRefusal job t x y 0 → Fills (Lays (piecesOf job)) (job .width) (job .height) x y t t' → Asks job t x y (Answered (cellOf (job .width) t' x y) (countInBox x y (isEmpty (job .width) t))) t'
+  answered : {t' : List ℕ} → AskRefusal job t x y 0 → Fills (layOf job) (job .width) (job .height) x y t t'
+      → Asks job t x y (Answered (cellOf (job .width) t' x y) (countInBox x y (isEmpty (job .width) t))) t'
   -- "A refusal returns its number .. and changes nothing lent."
   refused : {k : ℕ} → AskRefusal job t x y (suc k) → Asks job t x y (Refused (suc k)) t

@@ -43,7 +43,8 @@ Adds job t piece = Changes (job .width) (job .height) (AddRefusal job t piece) (
 
 abbrev pub Corrects : Job → List ℕ → ℕ → Record → Changed → List ℕ → Type 0
 Corrects job t k piece =
-    Changes (job .width) (job .height) (CorrectRefusal job t k piece) (λ x y. SizeFits (recordOfPiece job k) x y ⊎ SizeFits piece x y) (withCorrected job k piece) job t
+    Changes (job .width) (job .height) (CorrectRefusal job t k piece)
+    (λ x y. SizeFits (recordOfPiece job k) x y ⊎ SizeFits piece x y) (withCorrected job k piece) job t
 
 abbrev pub Removes : Job → List ℕ → ℕ → Changed → List ℕ → Type 0
 Removes job t k =

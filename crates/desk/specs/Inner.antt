@@ -1,60 +1,81 @@
 -- The calls as they compute; nobody has to believe it: `open-exactly` to `ask-exactly` (proofs/Words) say that they are the words.
-use Prim.Native.Nat.{ℕ, zero, suc, _*_}
-use mathlib.Core.Bool.{cond, _&&_, _||_}
-use mathlib.Core.List.{List, []}
+use Prim.Native.Nat.{ℕ, zero, suc, _*_, _≤_}
+use mathlib.Core.Bool.{Bool, not, _&&_, _||_}
+use mathlib.Core.List.{List, [], _∷_}
 use mathlib.Core.Path.{_≡_}
-use lib.Dec.{ltb, eqb}
-use lib.ListN.{length, getD}
+use lib.Dec.{leb, eqb}
+use lib.ListN.{length}
+use Rattle.laws.specs.Refusal.{Row}
+use Rattle.laws.specs.Inner.{numberGiven}
 use Rattle.cutting.specs.Limits.{sideMax, piecesMax}
 use Rattle.cells.specs.Cells.{cellOf}
 use Rattle.cells.specs.Inner.{exceeds, anyInBox, fits, emptied, emptiedWhere}
 use Rattle.job.specs.declared.Piece.{Piece as Record}
 use Rattle.job.specs.declared.Job.{Job}
-use Rattle.job.specs.Inner.{within, pieceInRange, jobInRange, rowOf}
-use Rattle.job.specs.Job.{jobOf, zeroJob, piecesOf}
+use Rattle.job.specs.Inner.{within, pieceInRange, jobInRange}
+use Rattle.job.specs.Job.{jobOf, zeroJob}
+use Rattle.job.specs.Range.{JobInRange}
 use Rattle.job.specs.Change.{withAdded, withCorrected, withRemoved}
 use Rattle.cells.specs.Box.{isEmpty, countInBox}
-use Rattle.points.specs.Inner.{marksOf, Rows, rowsOf}
+use Rattle.board.specs.Inner.{Rows, rowsOn, boardOf}
 use Rattle.fill.specs.Inner.{filled}
-use Rattle.cutting.specs.Piece.{Piece}
 use Rattle.desk.specs.declared.Changed.{Changed}
 use Rattle.desk.specs.declared.Asked.{Asked}
 use Rattle.desk.specs.declared.Asked.the-variants.{Answered, Refused}
 use Rattle.desk.specs.Changing.{recordOfPiece}
-use Rattle.desk.specs.Refusals.{badJob, shortTable, notInside, badPiece, fullJob, alienTable, area}
-
--- "Numbers we refuse with. Checked in the order of the numbers. An accepted call has number 0."
-
--- The first refusal, or else the later one.
-unfoldable pub orElse : ℕ → ℕ → ℕ
-orElse zero later = later
-orElse (suc k) later = suc k
+use Rattle.desk.specs.Refusals.{badJob, shortTable, cellsOf, openRefusals, addRefusals, correctRefusals, removeRefusals, askRefusals}
 
 -- What an accepted call (number 0) gives, or else what a refused one leaves.
 unfoldable pub accepted {ℓ} : {A : Type ℓ} → ℕ → A → A → A
 accepted zero given left = given
 accepted (suc k) given left = left
 
--- Refusals 1 and 2 of every call on a job.
+-- "Numbers we refuse with": the lists with a test for each row, and the number that they compute.
+
+-- The first rows of every call on a job: 1 and 2.
+unfoldable pub jobRefusals : Job → List ℕ → List Row
+jobRefusals job t = Row.unless badJob (JobInRange job) ∷ Row.unless shortTable (cellsOf job ≤ length t) ∷ []
+
+unfoldable pub jobTests : Job → List ℕ → List Bool
+jobTests job t = jobInRange job ∷ leb (cellsOf job) (length t) ∷ []
+
 unfoldable pub jobRefused : Job → List ℕ → ℕ
-jobRefused = λ job t. orElse (cond (jobInRange job) 0 badJob) (cond (ltb (length t) (area job)) shortTable 0)
+jobRefused job t = numberGiven (jobRefusals job t) (jobTests job t)
+
+unfoldable pub openTests : ℕ → ℕ → List ℕ → List Bool
+openTests a b t = (within a sideMax && within b sideMax) ∷ leb (a * b) (length t) ∷ []
 
 unfoldable pub openRefused : ℕ → ℕ → List ℕ → ℕ
-openRefused a b t = orElse (cond (within a sideMax && within b sideMax) 0 badJob) (cond (ltb (length t) (a * b)) shortTable 0)
+openRefused a b t = numberGiven (openRefusals a b t) (openTests a b t)
+
+unfoldable pub addTests : Job → List ℕ → Record → List Bool
+addTests job t piece = jobInRange job ∷ leb (cellsOf job) (length t) ∷ pieceInRange piece ∷ eqb (job .count) piecesMax ∷ []
 
 unfoldable pub addRefused : Job → List ℕ → Record → ℕ
-addRefused = λ job t piece.
-    orElse (jobRefused job t) (orElse (cond (pieceInRange piece) 0 badPiece) (cond (eqb (job .count) piecesMax) fullJob 0))
+addRefused job t piece = numberGiven (addRefusals job t piece) (addTests job t piece)
 
-unfoldable pub removeRefused : Job → List ℕ → ℕ → ℕ
-removeRefused = λ job t k. orElse (jobRefused job t) (cond (within k (job .count)) 0 notInside)
+unfoldable pub correctTests : Job → List ℕ → ℕ → Record → List Bool
+correctTests job t k piece = jobInRange job ∷ leb (cellsOf job) (length t) ∷ within k (job .count) ∷ pieceInRange piece ∷ []
 
 unfoldable pub correctRefused : Job → List ℕ → ℕ → Record → ℕ
-correctRefused = λ job t k piece. orElse (removeRefused job t k) (cond (pieceInRange piece) 0 badPiece)
+correctRefused job t k piece = numberGiven (correctRefusals job t k piece) (correctTests job t k piece)
+
+unfoldable pub removeTests : Job → List ℕ → ℕ → List Bool
+removeTests job t k = jobInRange job ∷ leb (cellsOf job) (length t) ∷ within k (job .count) ∷ []
+
+unfoldable pub removeRefused : Job → List ℕ → ℕ → ℕ
+removeRefused job t k = numberGiven (removeRefusals job t k) (removeTests job t k)
+
+unfoldable pub askTests : Job → List ℕ → ℕ → ℕ → List Bool
+askTests job t x y =
+    jobInRange job
+    ∷ leb (cellsOf job) (length t)
+    ∷ (within x (job .width) && within y (job .height))
+    ∷ not (anyInBox x y (exceeds (job .width) t))
+    ∷ []
 
 unfoldable pub askRefused : Job → List ℕ → ℕ → ℕ → ℕ
-askRefused = λ job t x y.
-    orElse (jobRefused job t) (orElse (cond (within x (job .width) && within y (job .height)) 0 notInside) (cond (anyInBox x y (exceeds (job .width) t)) alienTable 0))
+askRefused job t x y = numberGiven (askRefusals job t x y) (askTests job t x y)
 
 -- "Open a, b", "Add, correct piece k, remove piece k": answer, job and all cells.
 
@@ -97,19 +118,13 @@ removedCells job t k = accepted (removeRefused job t k) (emptiedSize job (record
 -- "Ask x, y": the answer and all cells.
 
 -- The answer with these numbers.
-abbrev pub answerWith : ℕ → ℕ → ℕ → Asked
-answerWith zero value worked = Answered value worked
-answerWith (suc k) value worked = Refused (suc k)
+abbrev pub askedWith : ℕ → ℕ → ℕ → Asked
+askedWith zero value worked = Answered value worked
+askedWith (suc k) value worked = Refused (suc k)
 
 -- What the filling reads of a job: its pieces as rows, and the marks of P and Q.
-unfoldable pub rowsOfPieces : List Piece → ℕ → ℕ → ℕ → Rows
-rowsOfPieces pieces n a b =
-    let widths = rowOf (λ p. p .width) pieces in
-    let heights = rowOf (λ p. p .height) pieces in
-    rowsOf n widths heights (rowOf (λ p. p .value) pieces) (marksOf (λ k. getD widths k 0) n a) (marksOf (λ k. getD heights k 0) n b)
-
 unfoldable pub jobRows : Job → Rows
-jobRows job = rowsOfPieces (piecesOf job) (job .count) (job .width) (job .height)
+jobRows job = rowsOn (boardOf job)
 
 -- The table after the question.
 unfoldable pub filledFor : Job → List ℕ → ℕ → ℕ → List ℕ
@@ -117,7 +132,7 @@ filledFor job t x y = filled (jobRows job) (job .width) (job .height) x y t
 
 unfoldable pub asked : Job → List ℕ → ℕ → ℕ → Asked
 asked job t x y =
-    answerWith (askRefused job t x y) (cellOf (job .width) (filledFor job t x y) x y) (countInBox x y (isEmpty (job .width) t))
+    askedWith (askRefused job t x y) (cellOf (job .width) (filledFor job t x y) x y) (countInBox x y (isEmpty (job .width) t))
 
 unfoldable pub askedCells : Job → List ℕ → ℕ → ℕ → List ℕ
 askedCells job t x y = accepted (askRefused job t x y) (filledFor job t x y) t

@@ -7,14 +7,9 @@ ghost use Rattle.cutting.specs.Limits.{piecesMax};
 ghost use Rattle.desk.specs.Refusals.{Usable, IsNumber};
 use crate::Changed;
 use crate::refusal;
+use fields::cast::wide;
 use job::Job;
 use job::Piece;
-
-fn wide(n: u16) -> usize
-    ensures { λ r. ⌜ r ≡ n ⌝ }
-{
-    n as usize
-}
 
 // The record of piece `number`.
 fn piece_of(job: Job, number: u32) -> Piece

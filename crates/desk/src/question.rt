@@ -8,16 +8,12 @@ ghost use Rattle.desk.specs.Refusals.{Usable};
 ghost use Rattle.desk.specs.Inner.{filledFor, AskPromise};
 use crate::Asked;
 use crate::refusal;
+use board::Board;
+use board::PLACES;
+use fields::cast::wide;
 use job::Job;
-use job::Measure;
 
-fn wide(n: u16) -> usize
-    ensures { λ r. ⌜ r ≡ n ⌝ }
-{
-    n as usize
-}
-
-// Fills the box x by y: the pieces as rows and the points as marks are made once for the whole box.
+// Fills the box x by y: the board is laid out once for the whole box.
 fn fill_for(job: Job, t: &mut [u32], x: usize, y: usize) -> u32
     requires { ⌜ Usable job (now t) ⌝ }
     requires { ⌜ Inside x y (job .width) (job .height) ⌝ }
@@ -25,15 +21,9 @@ fn fill_for(job: Job, t: &mut [u32], x: usize, y: usize) -> u32
     ensures { λ r. ⌜ r ≡ countInBox x y (isEmpty (job .width) (now (t .entry))) ⌝ }
     ensures { λ _. ⌜ now (t .exit) ≡ filledFor job (now (t .entry)) x y ⌝ }
 {
-    let a = wide(job.width);
-    let b = wide(job.height);
-    let n = wide(job.count);
-    let widths = job.row(Measure::Width);
-    let heights = job.row(Measure::Height);
-    let values = job.row(Measure::Value);
-    let across = points::marks(&widths, n, a);
-    let up = points::marks(&heights, n, b);
-    fill::fill_box(t, a, b, x, y, n, &widths, &heights, &values, &across, &up)
+    let mut board: Board = [0; PLACES];
+    board::lay_out(&mut board, job);
+    fill::fill_box(t, &board, x, y)
 }
 
 // The best value of x by y, and the number of cells that had to be worked out for it.

@@ -1,8 +1,10 @@
-// The numbers that the calls on a table refuse with, and the chain of refusals of each call.
+// The numbers that the calls on a table refuse with, and the list of refusals of each call, row by row.
 ghost use mathlib.Core.Path.{_≡_};
 ghost use mathlib.Core.Bool.{_&&_};
 ghost use Rattle.job.specs.Inner.{within};
 ghost use Rattle.desk.specs.Inner.{jobRefused, openRefused, addRefused, correctRefused, removeRefused, askRefused};
+use fields::cast::long;
+use fields::cast::wide;
 use job::Job;
 use job::Piece;
 
@@ -24,18 +26,6 @@ pub const FULL: u32 = 5;
 // A filled cell of the box exceeds what its area may earn.
 pub const EXCESS: u32 = 7;
 
-fn wide(n: u16) -> usize
-    ensures { λ r. ⌜ r ≡ n ⌝ }
-{
-    n as usize
-}
-
-fn cast(n: u16) -> u32
-    ensures { λ r. ⌜ r ≡ n ⌝ }
-{
-    n as u32
-}
-
 // Is n in the range 1 to most?
 fn one_to(n: u32, most: u32) -> bool
     ensures { λ r. ⌜ r ≡ within n most ⌝ }
@@ -50,10 +40,10 @@ fn one_to(n: u32, most: u32) -> bool
 pub fn inside(x: u32, y: u32, a: u16, b: u16) -> bool
     ensures { λ r. ⌜ r ≡ (within x a && within y b) ⌝ }
 {
-    if !one_to(x, cast(a)) {
+    if !one_to(x, long(a)) {
         return false;
     }
-    one_to(y, cast(b))
+    one_to(y, long(b))
 }
 
 pub fn job_refused(job: Job, t: &[u32]) -> u32
@@ -103,7 +93,7 @@ pub(crate) fn remove_refused(job: Job, t: &[u32], number: u32) -> u32
     if first != 0 {
         return first;
     }
-    if !one_to(number, cast(job.count)) {
+    if !one_to(number, long(job.count)) {
         return PLACE;
     }
     0

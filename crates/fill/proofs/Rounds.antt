@@ -3,21 +3,20 @@ use Prim.Native.Nat.{ℕ, _+_, _-_, _*_, _≤_, _<_, max}
 use mathlib.Core.Bool.{Bool, cond}
 use mathlib.Core.Path.{_≡_, sym, ap, ap₂, _∙_, subst}
 use mathlib.Core.List.{List}
-use mathlib.Core.Logic.{_⊎_, ⊎-elim}
+use mathlib.Core.Logic.{⊎-elim}
 use native.Mathlib.Omega.{arith}
 use lib.ListN.{set}
 use Rattle.laws.proofs.Order.{le-or-lt, last-or-below}
 use Rattle.laws.proofs.Says.{says-no}
 use Rattle.cutting.specs.Limits.{sideMax}
 use Rattle.cutting.specs.Piece.{Inside}
-use Rattle.cutting.specs.Candidate.{Smaller}
 use Rattle.cutting.proofs.Bound.{most, most-parts}
 use Rattle.cells.specs.Cells.{empty, place, cellOf}
 use Rattle.cells.specs.Inner.{Holds}
 use Rattle.cells.specs.Box.{isEmpty, counted, countInRow, countInBox}
 use Rattle.cells.proofs.Places.{holds-lower, area-fits}
 use Rattle.cells.proofs.Box.{isEmpty-says, countInRow-more, countInBox-more, countInRow-same, countInRow-zero, countInRow-bound, countInBox-bound}
-use Rattle.points.specs.Inner.{Rows}
+use Rattle.board.specs.Inner.{Rows}
 use Rattle.fill.specs.Inner.{lineValue, worthOf, RowLines, floorBy, cellRaised, LinesUp, FullBefore, filled, Around, RowReady, BoxReady}
 use Rattle.fill.proofs.Worth.{lineValue-same}
 use Rattle.fill.specs.Filled.{Full}
@@ -30,27 +29,42 @@ around-lines a t u w s =
     record {
       holds = s .holds;
       wide = s .wide;
-      adds = λ c r l. omega (arith, s .below c w (small c (omega arith) (omega arith)), s .below r w (small r (omega arith) (omega arith)), most-parts u w c r (omega arith), most-fits u w (omega (arith, s .wide, s .holds .widthMost)) (s .holds .heightMost));
+      adds = λ c r l.
+          omega (
+            arith,
+            below c (omega arith) (omega arith),
+            below r (omega arith) (omega arith),
+            most-parts u w c r (omega arith),
+            most-fits u w (omega (arith, s .wide, s .holds .widthMost)) (s .holds .heightMost),
+          );
     }
   where
-    small : (c : ℕ) → 1 ≤ c → c < u → Smaller c w u w
-    small c p h = record { inside = record { widthLeast = p; widthMost = omega arith; heightLeast = s .holds .heightLeast; heightMost = omega arith }; less = omega arith }
+    below : (c : ℕ) → 1 ≤ c → c < u → cellOf a t c w ≤ most c w
+    below c p h = s .below c w (record { inside = omega (arith, s .holds .heightLeast); less = omega arith })
 
 -- A cell that is not empty is left, an empty one is worked out.
-pub cell-kept : (floor : ℕ) (inP : ℕ → Bool) (a u w : ℕ) (t : List ℕ) {v : ℕ} → v ≡ cellOf a t u w → (v ≡ empty → ⊥) → (0 ≡ counted (isEmpty a t u w)) × (t ≡ cellRaised floor inP a u w t)
+cell-raised : (floor : ℕ) (inP : ℕ → Bool) (a u w : ℕ) (t : List ℕ) {s : Bool} → isEmpty a t u w ≡ s
+    → cellRaised floor inP a u w t ≡ cond s (set t (place a u w) (max floor (lineValue inP (λ c. cellOf a t c w) u))) t
 unfolding cellRaised
+cell-raised floor inP a u w t e = ap (λ (b : Bool). cond b (set t (place a u w) (max floor (lineValue inP (λ c. cellOf a t c w) u))) t) e
+
+pub cell-kept : (floor : ℕ) (inP : ℕ → Bool) (a u w : ℕ) (t : List ℕ) {v : ℕ} → v ≡ cellOf a t u w → (v ≡ empty → ⊥)
+    → (0 ≡ counted (isEmpty a t u w)) × (t ≡ cellRaised floor inP a u w t)
 cell-kept floor inP a u w t e h =
     let s = says-no (isEmpty-says a t u w) (λ k. h (e ∙ k)) in
-    (ap counted (sym s), ap (λ (b : Bool). cond b (set t (place a u w) (max floor (lineValue inP (λ c. cellOf a t c w) u))) t) (sym s))
+    (ap counted (sym s), sym (cell-raised floor inP a u w t s))
 
-pub cell-worked : (floor : ℕ) (inP : ℕ → Bool) (a u w : ℕ) (t t' : List ℕ) {v line m : ℕ} → v ≡ cellOf a t u w → v ≡ empty → line ≡ lineValue inP (λ c. cellOf a t c w) u → m ≡ max floor line → t' ≡ set t (place a u w) m → (1 ≡ counted (isEmpty a t u w)) × (t' ≡ cellRaised floor inP a u w t)
-unfolding cellRaised
+pub cell-worked : (floor : ℕ) (inP : ℕ → Bool) (a u w : ℕ) (t t' : List ℕ) {v line m : ℕ} → v ≡ cellOf a t u w → v ≡ empty
+    → line ≡ lineValue inP (λ c. cellOf a t c w) u → m ≡ max floor line → t' ≡ set t (place a u w) m
+    → (1 ≡ counted (isEmpty a t u w)) × (t' ≡ cellRaised floor inP a u w t)
 cell-worked floor inP a u w t t' e h l g k =
     let s = isEmpty-says a t u w .found (sym e ∙ h) in
-    (ap counted (sym s), k ∙ (ap (set t (place a u w)) (g ∙ ap (max floor) l) ∙ ap (λ (b : Bool). cond b (set t (place a u w) (max floor (lineValue inP (λ c. cellOf a t c w) u))) t) (sym s)))
+    (ap counted (sym s), k ∙ (ap (set t (place a u w)) (g ∙ ap (max floor) l) ∙ sym (cell-raised floor inP a u w t s)))
 
 -- A cell raised from its true floor gets its worth.
-raised-filled : (rows : Rows) (a u w : ℕ) (t : List ℕ) {floor : ℕ} → floor ≡ floorBy (rows .width) (rows .height) (rows .value) (rows .count) (rows .inQ) (cellOf a t) w u → cellRaised floor (rows .inP) a u w t ≡ cellFilled rows a u w t
+raised-filled : (rows : Rows) (a u w : ℕ) (t : List ℕ) {floor : ℕ}
+    → floor ≡ floorBy (rows .width) (rows .height) (rows .value) (rows .count) (rows .inQ) (cellOf a t) w u
+    → cellRaised floor (rows .inP) a u w t ≡ cellFilled rows a u w t
 unfolding cellRaised cellFilled floorBy worthOf
 raised-filled rows a u w t {floor} e =
     let worth : max floor (lineValue (rows .inP) (λ c. cellOf a t c w) u) ≡ worthOf rows (cellOf a t) u w = omega (arith, e) in
@@ -61,53 +75,75 @@ module _ (rows : Rows) (a b x w : ℕ) (t : List ℕ) (ready : RowReady rows a b
   full : Full a t (i + 1) (w - 1)
   full u v j = ready .full u v (omega arith)
 
+  in-width : i < a
+  in-width = omega (arith, ready .inside .widthMost)
+
   pub row-around : {now : List ℕ} → now ≡ filled rows a b i w t → Around a now (i + 1) w
   row-around e =
       subst (λ (l : List ℕ). Around a l (i + 1) w) (sym e)
       (record {
-        holds = record { widthLeast = h .widthLeast; widthMost = h .widthMost; heightLeast = h .heightLeast; heightMost = h .heightMost; room = omega (arith, h .room, filled-length rows a b i w t) };
+        holds = omega (arith, h, filled-length rows a b i w t);
         least = omega arith;
-        wide = omega (arith, ready .inside .widthMost);
-        below = λ m n s. subst (λ (v : ℕ). v ≤ most m n) (sym (early rows a b t (ready .holds .room) i w (omega (arith, ready .inside .widthMost)) (ready .inside .heightLeast) (ready .inside .heightMost) full m n (s .inside) (λ k. omega (arith, s .less, k .0, k .1)))) (final-most rows (cellOf a t) x w (ready .valued) (ready .bounded) m n (omega (arith, s .inside)));
+        wide = omega (arith, in-width);
+        below = λ m n s.
+            omega (
+              arith,
+              early rows a b t (ready .holds .room) i w in-width (h .heightLeast) (ready .inside .heightMost) full m n (s .inside)
+                  (λ k. omega (arith, s .less, k)),
+              final-most rows (cellOf a t) x w (ready .valued) (ready .bounded) m n (omega (arith, s .inside)),
+            );
       })
     where
       h : Holds a w t
       h = holds-lower w (ready .holds) (ready .inside .heightLeast) (ready .inside .heightMost)
 
   -- The floor of the next cell is as it was before the row.
-  floor-still : floorBy (rows .width) (rows .height) (rows .value) (rows .count) (rows .inQ) (cellOf a (filled rows a b i w t)) w (i + 1) ≡ floorBy (rows .width) (rows .height) (rows .value) (rows .count) (rows .inQ) (cellOf a t) w (i + 1)
+  floor-still : floorBy (rows .width) (rows .height) (rows .value) (rows .count) (rows .inQ) (cellOf a (filled rows a b i w t)) w (i + 1)
+      ≡ floorBy (rows .width) (rows .height) (rows .value) (rows .count) (rows .inQ) (cellOf a t) w (i + 1)
   unfolding floorBy
   floor-still =
-      ap (max _) (lineValue-same (rows .inQ) _ _ w (λ d p h. filled-outside rows a b i w t (ready .holds .room) (omega (arith, ready .inside .widthMost)) (ready .inside .heightMost) (i + 1) d (omega (arith, ready .inside)) (λ f. omega (arith, f .wide))))
+      ap (max _) (lineValue-same (rows .inQ) _ _ w
+      (λ d p h. filled-outside rows a b i w t (ready .holds .room) (omega (arith, in-width)) (ready .inside .heightMost) (i + 1) d
+      (omega (arith, ready .inside)) (λ f. omega (arith, f .wide))))
 
-  pub row-more : {now next : List ℕ} {floor : ℕ} → now ≡ filled rows a b i w t → floor ≡ floorBy (rows .width) (rows .height) (rows .value) (rows .count) (rows .inQ) (cellOf a t) w (i + 1) → next ≡ cellRaised floor (rows .inP) a (i + 1) w now → next ≡ filled rows a b (i + 1) w t
+  pub row-more : {now next : List ℕ} {floor : ℕ} → now ≡ filled rows a b i w t
+      → floor ≡ floorBy (rows .width) (rows .height) (rows .value) (rows .count) (rows .inQ) (cellOf a t) w (i + 1)
+      → next ≡ cellRaised floor (rows .inP) a (i + 1) w now → next ≡ filled rows a b (i + 1) w t
   row-more {now} {next} {floor} e g f =
-      f ∙ (ap (cellRaised floor (rows .inP) a (i + 1) w) e ∙ (raised-filled rows a (i + 1) w (filled rows a b i w t) (g ∙ sym floor-still) ∙ filled-cell rows a b t (ready .holds .room) i w (omega (arith, ready .inside .widthMost)) (ready .inside .heightLeast) (ready .inside .heightMost) full))
+      f
+      ∙ (ap (cellRaised floor (rows .inP) a (i + 1) w) e
+      ∙ (raised-filled rows a (i + 1) w (filled rows a b i w t) (g ∙ sym floor-still)
+      ∙ filled-cell rows a b t (ready .holds .room) i w in-width (ready .inside .heightLeast) (ready .inside .heightMost) full))
 
-  pub row-count : {now : List ℕ} {m r : ℕ} → now ≡ filled rows a b i w t → m ≡ countInRow i w (isEmpty a t) → r ≡ counted (isEmpty a now (i + 1) w) → m + r ≡ countInRow (i + 1) w (isEmpty a t)
+  pub row-count : {now : List ℕ} {m r : ℕ} → now ≡ filled rows a b i w t → m ≡ countInRow i w (isEmpty a t) → r ≡ counted (isEmpty a now (i + 1) w)
+      → m + r ≡ countInRow (i + 1) w (isEmpty a t)
   unfolding isEmpty
   row-count e f g =
-      ap₂ _+_ f (g ∙ (ap (λ (l : List ℕ). counted (isEmpty a l (i + 1) w)) e ∙ ap (λ (v : ℕ). counted (lib.Dec.eqb v empty)) (old-cell rows a b t (ready .holds .room) i w (omega (arith, ready .inside .widthMost)) (ready .inside .heightLeast) (ready .inside .heightMost) full)))
+      let same = old-cell rows a b t (ready .holds .room) i w in-width (ready .inside .heightLeast) (ready .inside .heightMost) full in
+      ap₂ _+_ f (g ∙ (ap (λ (l : List ℕ). counted (isEmpty a l (i + 1) w)) e ∙ ap (λ (v : ℕ). counted (lib.Dec.eqb v empty)) same))
       ∙ sym (countInRow-more i w (isEmpty a t))
 
-  pub row-within : {now : List ℕ} {m r : ℕ} → now ≡ filled rows a b i w t → m ≡ countInRow i w (isEmpty a t) → r ≡ counted (isEmpty a now (i + 1) w) → m + r ≤ i + 1
+  pub row-within : {now : List ℕ} {m r : ℕ} → now ≡ filled rows a b i w t → m ≡ countInRow i w (isEmpty a t) → r ≡ counted (isEmpty a now (i + 1) w)
+      → m + r ≤ i + 1
   row-within e f g = subst (λ (k : ℕ). k ≤ i + 1) (sym (row-count e f g)) (countInRow-bound (i + 1) w (isEmpty a t))
 
 -- Looking for the first empty cell of a row.
 pub before-none : (a : ℕ) (t : List ℕ) (x w : ℕ) → FullBefore a t x w (0 + 1)
 before-none a t x w = record { least = omega arith; most = omega arith; full = λ u p h. absurd (omega arith) }
 
-pub before-more : (a : ℕ) (t : List ℕ) (x w i : ℕ) {v : ℕ} → i < x → FullBefore a t x w (i + 1) → v ≡ cellOf a t (i + 1) w → (v ≡ empty → ⊥) → FullBefore a t x w (i + 1 + 1)
+pub before-more : (a : ℕ) (t : List ℕ) (x w i : ℕ) {v : ℕ} → i < x → FullBefore a t x w (i + 1) → v ≡ cellOf a t (i + 1) w → (v ≡ empty → ⊥)
+    → FullBefore a t x w (i + 1 + 1)
 before-more a t x w i l f e h =
     record {
       least = omega arith;
       most = omega arith;
-      full = λ u p b. ⊎-elim (λ q. subst (λ (m : ℕ). cellOf a t m w ≡ empty → ⊥) (sym q) (λ z. h (e ∙ z))) (λ k. f .full u p k) (last-or-below {k = u} {n = i + 1} (omega arith));
+      full = λ u p b.
+          ⊎-elim (λ q. subst (λ (m : ℕ). cellOf a t m w ≡ empty → ⊥) (sym q) (λ z. h (e ∙ z))) (λ k. f .full u p k)
+          (last-or-below {k = u} {n = i + 1} (omega arith));
     }
 
 pub row-cells : (a : ℕ) (t : List ℕ) (x w i : ℕ) → Holds a w t → x ≤ a → i < x → Holds a w t × Inside (i + 1) w a w
-row-cells a t x w i h k l =
-    (h, record { widthLeast = omega arith; widthMost = omega arith; heightLeast = h .heightLeast; heightMost = omega arith })
+row-cells a t x w i h k l = (h, omega (arith, h .heightLeast))
 
 -- A row can be entered at the column before which it is full.
 module _ (rows : Rows) (a b x w from : ℕ) (t : List ℕ) (ready : RowReady rows a b x w t) (start : FullBefore a t x w from) where
@@ -118,7 +154,8 @@ module _ (rows : Rows) (a b x w from : ℕ) (t : List ℕ) (ready : RowReady row
       (last-or-below {k = v} {n = w} (omega (arith, i .heightMost)))
 
   pub entered : t ≡ filled rows a b (from - 1) w t
-  entered = filled-full rows a b (from - 1) w t (ready .holds .room) (omega (arith, start .most, ready .inside .widthMost)) (ready .inside .heightMost) entered-full
+  entered =
+      filled-full rows a b (from - 1) w t (ready .holds .room) (omega (arith, start .most, ready .inside .widthMost)) (ready .inside .heightMost) entered-full
 
   pub entered-count : 0 ≡ countInRow (from - 1) w (isEmpty a t)
   entered-count = sym (countInRow-zero (from - 1) w (isEmpty a t) (λ u p h. says-no (isEmpty-says a t u w) (start .full u p (omega (arith, start .least)))))
@@ -129,14 +166,22 @@ module _ (rows : Rows) (a b x w from : ℕ) (t : List ℕ) (ready : RowReady row
         holds = holds-lower w (ready .holds) (ready .inside .heightLeast) (ready .inside .heightMost);
         least = start .least;
         wide = ready .inside .widthMost;
-        adds = λ u d r h k l. omega (arith, below u d h k (omega arith) (omega arith), below u r h k (omega arith) (omega arith), most-parts w u d r (omega arith), most-fits u w (omega (arith, k, ready .inside, ready .holds)) (omega (arith, ready .inside, ready .holds)));
+        adds = λ u d r h k l.
+            omega (
+              arith,
+              below u d h k (omega arith) (omega arith),
+              below u r h k (omega arith) (omega arith),
+              most-parts w u d r (omega arith),
+              most-fits u w (omega (arith, k, ready .inside, ready .holds)) (omega (arith, ready .inside, ready .holds)),
+            );
       }
     where
       below : (u d : ℕ) → from ≤ u → u ≤ x → 1 ≤ d → d < w → cellOf a t u d ≤ most u d
       below u d h k p l = ready .bounded u d (omega (arith, start .least)) (ready .full u d (omega (arith, start .least)))
 
 -- Nothing is to be done in a row that is full.
-pub row-full : (rows : Rows) (a b x w from : ℕ) (t : List ℕ) → RowReady rows a b x w t → FullBefore a t x w from → x < from → (0 ≡ countInRow x w (isEmpty a t)) × (t ≡ filled rows a b x w t)
+pub row-full : (rows : Rows) (a b x w from : ℕ) (t : List ℕ) → RowReady rows a b x w t → FullBefore a t x w from → x < from
+    → (0 ≡ countInRow x w (isEmpty a t)) × (t ≡ filled rows a b x w t)
 row-full rows a b x w from t ready start past =
     subst (λ (m : ℕ). (0 ≡ countInRow m w (isEmpty a t)) × (t ≡ filled rows a b m w t)) (omega (arith, start .most, start .least))
     (entered-count rows a b x w from t ready start, entered rows a b x w from t ready start)
@@ -149,8 +194,8 @@ module _ (rows : Rows) (a b x y : ℕ) (t : List ℕ) (ready : BoxReady rows a b
   high : j ≤ b
   high = omega (arith, ready .inside .heightMost)
 
-  next-cell : (u : ℕ) → 1 ≤ u → u ≤ x → cellOf a (filled rows a b x j t) u (j + 1) ≡ cellOf a t u (j + 1)
-  next-cell u p h = filled-outside rows a b x j t (ready .holds .room) wide high u (j + 1) (omega (arith, ready .inside)) (λ f. omega (arith, f .high))
+  outside : (u v : ℕ) → Inside u v a b → j < v → cellOf a (filled rows a b x j t) u v ≡ cellOf a t u v
+  outside u v i g = filled-outside rows a b x j t (ready .holds .room) wide high u v i (λ f. omega (arith, f .high))
 
   done-most : (u v : ℕ) → Inside u v x j → cellOf a (filled rows a b x j t) u v ≤ most u v
   done-most u v i =
@@ -161,9 +206,11 @@ module _ (rows : Rows) (a b x y : ℕ) (t : List ℕ) (ready : BoxReady rows a b
   box-row e =
       subst (RowReady rows a b x (j + 1)) (sym e)
       (record {
-        holds = record { widthLeast = h .widthLeast; widthMost = h .widthMost; heightLeast = h .heightLeast; heightMost = h .heightMost; room = omega (arith, h .room, filled-length rows a b x j t) };
+        holds = omega (arith, h, filled-length rows a b x j t);
         inside = omega (arith, ready .inside);
-        full = λ u v i k. omega (arith, done-most u v (omega arith), most-fits u v (omega (arith, i .widthMost, ready .inside, h)) (omega (arith, i .heightMost, ready .inside, h)), k);
+        full = λ u v i k.
+            let low = most-fits u v (omega (arith, i .widthMost, ready .inside, h)) (omega (arith, i .heightMost, ready .inside, h)) in
+            omega (arith, done-most u v (omega arith), low, k);
         bounded = λ u v i k. ⊎-elim (λ g. done-most u v (omega arith)) (λ g. row u v i g k) (le-or-lt v j);
         valued = ready .valued;
       })
@@ -173,20 +220,26 @@ module _ (rows : Rows) (a b x y : ℕ) (t : List ℕ) (ready : BoxReady rows a b
 
       row : (u v : ℕ) → Inside u v x (j + 1) → j < v → (cellOf a (filled rows a b x j t) u v ≡ empty → ⊥) → cellOf a (filled rows a b x j t) u v ≤ most u v
       row u v i g k =
-          let here : cellOf a (filled rows a b x j t) u v ≡ cellOf a t u v = filled-outside rows a b x j t (h .room) wide high u v (omega (arith, ready .inside)) (λ f. omega (arith, f .high)) in
+          let here = outside u v (omega (arith, ready .inside)) g in
           subst (λ (m : ℕ). m ≤ most u v) (sym here) (ready .bounded u v (omega arith) (λ q. k (here ∙ q)))
 
   pub box-more : {now next : List ℕ} → now ≡ filled rows a b x j t → next ≡ filled rows a b x (j + 1) now → next ≡ filled rows a b x (j + 1) t
   box-more e f =
-      f ∙ (ap (filled rows a b x (j + 1)) e ∙ filled-again rows a b t (ready .holds .room) x j x (j + 1) (omega arith) (omega arith) wide (omega (arith, ready .inside .heightMost)))
+      f
+      ∙ (ap (filled rows a b x (j + 1)) e
+      ∙ filled-again rows a b t (ready .holds .room) x j x (j + 1) (omega arith) (omega arith) wide (omega (arith, ready .inside .heightMost)))
 
-  pub box-count : {now : List ℕ} {m r : ℕ} → now ≡ filled rows a b x j t → m ≡ countInBox x j (isEmpty a t) → r ≡ countInRow x (j + 1) (isEmpty a now) → m + r ≡ countInBox x (j + 1) (isEmpty a t)
+  pub box-count : {now : List ℕ} {m r : ℕ} → now ≡ filled rows a b x j t → m ≡ countInBox x j (isEmpty a t) → r ≡ countInRow x (j + 1) (isEmpty a now)
+      → m + r ≡ countInBox x (j + 1) (isEmpty a t)
   unfolding isEmpty
   box-count e f g =
-      ap₂ _+_ f (g ∙ (ap (λ (l : List ℕ). countInRow x (j + 1) (isEmpty a l)) e ∙ countInRow-same x (j + 1) _ _ (λ u p h. ap (λ (v : ℕ). lib.Dec.eqb v empty) (next-cell u p h))))
+      let same : (u : ℕ) → 1 ≤ u → u ≤ x → isEmpty a (filled rows a b x j t) u (j + 1) ≡ isEmpty a t u (j + 1) =
+      λ u p h. ap (λ (v : ℕ). lib.Dec.eqb v empty) (outside u (j + 1) (omega (arith, ready .inside)) (omega arith)) in
+      ap₂ _+_ f (g ∙ (ap (λ (l : List ℕ). countInRow x (j + 1) (isEmpty a l)) e ∙ countInRow-same x (j + 1) _ _ same))
       ∙ sym (countInBox-more x j (isEmpty a t))
 
-  pub box-within : {now : List ℕ} {m r : ℕ} → now ≡ filled rows a b x j t → m ≡ countInBox x j (isEmpty a t) → r ≡ countInRow x (j + 1) (isEmpty a now) → m + r ≤ sideMax * sideMax
+  pub box-within : {now : List ℕ} {m r : ℕ} → now ≡ filled rows a b x j t → m ≡ countInBox x j (isEmpty a t) → r ≡ countInRow x (j + 1) (isEmpty a now)
+      → m + r ≤ sideMax * sideMax
   box-within e f g =
-      subst (λ (k : ℕ). k ≤ sideMax * sideMax) (sym (box-count e f g))
-      (omega (arith, countInBox-bound x (j + 1) (isEmpty a t), area-fits {u = x} {w = j + 1} (omega (arith, wide, ready .holds)) (omega (arith, high, more, ready .inside, ready .holds))))
+      let sides = area-fits {u = x} {w = j + 1} (omega (arith, wide, ready .holds)) (omega (arith, high, more, ready .inside, ready .holds)) in
+      omega (arith, countInBox-bound x (j + 1) (isEmpty a t), sides, box-count e f g)

@@ -1,15 +1,16 @@
 -- The filling as it computes; nobody has to believe it: `fills-exactly` says that it is `Fills`.
-use Prim.Native.Nat.{ℕ, suc, _+_, _/_, _≤_, _<_, max, zero, _*_, _-_}
-use mathlib.Core.Bool.{Bool, cond, _&&_}
+use Prim.Native.Nat.{ℕ, suc, _+_, _≤_, _<_, max, _*_, _-_}
+use mathlib.Core.Bool.{Bool, true, cond, _&&_}
 use mathlib.Core.List.{List}
 use mathlib.Core.Path.{_≡_}
 use lib.Dec.{leb, eqb}
 use lib.ListN.{getD, set}
-use Rattle.laws.specs.Inner.{bestBelow}
+use Rattle.laws.specs.Inner.{bestBelow, deep}
+use Rattle.cutting.specs.Inner.{halfOf}
 use Rattle.cutting.specs.Dissection.{rest, Line}
 use Rattle.cells.specs.Cells.{cellOf, empty, place}
 use Rattle.cells.specs.Inner.{Holds, fits, redrawn}
-use Rattle.points.specs.Inner.{Rows}
+use Rattle.board.specs.Inner.{Rows, rowsOn, widthOn, heightOn, countOn, widthAt, heightAt, valueAt, markedAt}
 use Rattle.cells.specs.Box.{isEmpty}
 use Rattle.cutting.specs.Limits.{valueMax}
 use Rattle.cutting.specs.Piece.{Inside}
@@ -29,11 +30,12 @@ lineAt marked part x c = cond (marked c) (part c + part (rest x c)) 0
 
 -- ".. with c ≤ u/2"
 unfoldable pub lineValue : (ℕ → Bool) → (ℕ → ℕ) → ℕ → ℕ
-lineValue marked part x = bestBelow (λ i. lineAt marked part x (suc i)) (x / 2)
+lineValue marked part x = bestBelow (λ i. lineAt marked part x (suc i)) (halfOf x)
 
 unfoldable pub worthOf : Rows → (ℕ → ℕ → ℕ) → ℕ → ℕ → ℕ
 worthOf rows cell u w =
-    max (fittingValue (rows .width) (rows .height) (rows .value) (rows .count) u w) (max (lineValue (rows .inP) (λ c. cell c w) u) (lineValue (rows .inQ) (λ d. cell u d) w))
+    max (fittingValue (rows .width) (rows .height) (rows .value) (rows .count) u w)
+    (max (lineValue (rows .inP) (λ c. cell c w) u) (lineValue (rows .inQ) (λ d. cell u d) w))
 
 -- The first x cells of row w are in the table, and no two parts of a line across them overflow 32 bits.
 pub record RowLines (a : ℕ) (t : List ℕ) (w x : ℕ) : Type 0 where
@@ -44,8 +46,8 @@ pub record RowLines (a : ℕ) (t : List ℕ) (w x : ℕ) : Type 0 where
 -- The floor of a row w: what a cell (u, w) is worth without a line across.
 
 -- A piece's value where it fits in u by w, else 0.
-abbrev pub pieceIn : ℕ → ℕ → ℕ → ℕ → ℕ → ℕ
-pieceIn p q v u w = cond (fits p q u w) v 0
+abbrev pub valueIn : ℕ → ℕ → ℕ → ℕ → ℕ → ℕ
+valueIn p q v u w = cond (fits p q u w) v 0
 
 -- f' is f with the columns from..=x raised to g, the others as they were.
 pub record Raises (from x : ℕ) (g : ℕ → ℕ) (f f' : List ℕ) : Type 0 where
@@ -81,13 +83,13 @@ pub record FullBefore (a : ℕ) (t : List ℕ) (x w from : ℕ) : Type 0 where
 
 -- No order of loops: a cell's final number is its own, or, where it is empty, its worth among the final numbers.
 
--- The depth k only makes the definition end; `final-own` gives the equation without it.
-unfoldable pub finalWithin : Rows → (ℕ → ℕ → ℕ) → ℕ → ℕ → ℕ → ℕ
-finalWithin rows cell zero u w = cell u w
-finalWithin rows cell (suc k) u w = cond (eqb (cell u w) empty) (worthOf rows (finalWithin rows cell k) u w) (cell u w)
+-- What a cell holds once it has been asked, from what it held and its worth.
+abbrev pub settled : ℕ → ℕ → ℕ
+settled old worth = cond (eqb old empty) worth old
 
+-- `final-own` gives the equation.
 unfoldable pub final : Rows → (ℕ → ℕ → ℕ) → ℕ → ℕ → ℕ
-final rows cell u w = finalWithin rows cell (u + w) u w
+final rows cell u w = deep (λ (s : ℕ × ℕ). s .0 + s .1) 0 (λ part s. settled (cell (s .0) (s .1)) (worthOf rows (λ x y. part (x, y)) (s .0) (s .1))) (u, w)
 
 -- The table once x by y has been asked: cells (u, w) of the box hold their final number, the others stay.
 unfoldable pub filled : Rows → ℕ → ℕ → ℕ → ℕ → List ℕ → List ℕ
@@ -120,3 +122,24 @@ pub record BoxReady (rows : Rows) (a b x y : ℕ) (t : List ℕ) : Type 0 where
   pub inside : Inside x y a b
   pub bounded : Bounded (cellOf a t) x y
   pub valued : Valued rows
+
+-- The same, read off a board.
+
+abbrev pub cellOn : List ℕ → List ℕ → ℕ → ℕ → ℕ
+cellOn board t = cellOf (widthOn board) t
+
+abbrev pub fittingOn : List ℕ → ℕ → ℕ → ℕ
+fittingOn board u w = fittingValue (widthAt board) (heightAt board) (valueAt board) (countOn board) u w
+
+abbrev pub floorOn : List ℕ → List ℕ → ℕ → ℕ → ℕ
+floorOn board t w = floorBy (widthAt board) (heightAt board) (valueAt board) (countOn board) (markedAt board true) (cellOn board t) w
+
+-- What the lines up give in column u, and the line at d.
+abbrev pub linesOn : List ℕ → List ℕ → ℕ → ℕ → ℕ
+linesOn board t w u = lineValue (markedAt board true) (λ d. cellOn board t u d) w
+
+abbrev pub partsOn : List ℕ → List ℕ → ℕ → ℕ → ℕ → ℕ
+partsOn board t w d u = cellOn board t u d + cellOn board t u (rest w d)
+
+abbrev pub filledOn : List ℕ → ℕ → ℕ → List ℕ → List ℕ
+filledOn board x y t = filled (rowsOn board) (widthOn board) (heightOn board) x y t

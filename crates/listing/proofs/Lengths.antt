@@ -1,18 +1,20 @@
 -- How long the lines are, and the listing of a tree by the number of its nodes.
 use Prim.Native.Nat.{ℕ, suc, _+_, _*_, _^_, _≤_, _<_}
+use mathlib.Core.Bool.{Bool, true, false}
 use mathlib.Core.Path.{ap}
 use mathlib.Core.List.{List, [], _∷_}
 use native.Mathlib.Omega.{arith}
 use lib.ListN.{length, length-append}
 use Rattle.cutting.specs.Limits.{sideMax}
 use Rattle.cutting.specs.Piece.{Piece, Lays, InRange}
+use Rattle.cutting.specs.Dissection.{crossed, partWidth, partHeight}
 use Rattle.cutting.specs.Tree.{Tree, Valid, earning, nodes}
 use Rattle.cutting.proofs.Bound.{most-mono, earning-bound}
 use Rattle.cutting.proofs.Tree.{dissection-of}
 use Rattle.printing.specs.Decimal.{decimal}
 use Rattle.printing.proofs.Decimal.{decimal-length}
 use Rattle.listing.specs.Line.{spaced, ended, wordOf, lineText, headText, refusedText}
-use Rattle.listing.specs.Listing.{listing}
+use Rattle.listing.specs.Listing.{kindOf, listing}
 use Rattle.listing.specs.declared.Kind.{Kind}
 
 -- Numbers with as many digits, and what stands behind them.
@@ -35,7 +37,8 @@ word-length Kind.Scrap = omega arith
 abbrev pub lineMost : ℕ
 lineMost = 38
 
-pub line-length : (level x y e : ℕ) (kind : Kind) (number : ℕ) → level < 1_000 → x < 1_000 → y < 1_000 → e < 10_000_000_000 → number < 1_000 → length (lineText level x y e kind number) ≤ lineMost
+pub line-length : (level x y e : ℕ) (kind : Kind) (number : ℕ) → level < 1_000 → x < 1_000 → y < 1_000 → e < 10_000_000_000 → number < 1_000
+    → length (lineText level x y e kind number) ≤ lineMost
 unfolding lineText
 line-length level x y e kind number h i j k l =
     simp length-append
@@ -56,19 +59,33 @@ refused-length number h = simp length-append (omega (arith, ended-length 0 numbe
 
 -- "one line per node": a tree on a sheet has no longer a listing than its nodes allow.
 module _ {pieces : List Piece} (range : InRange (Lays pieces)) (few : length pieces < 1_000) where
-  top-length : {t : Tree} (level x y : ℕ) (kind : Kind) (number : ℕ) → level + (x + y) < 1_000 → x ≤ sideMax → y ≤ sideMax → number < 1_000 → Valid pieces t x y → length (lineText level x y (earning pieces t) kind number) ≤ lineMost
+  top-length : {t : Tree} (level x y : ℕ) (kind : Kind) (number : ℕ) → level + (x + y) < 1_000 → x ≤ sideMax → y ≤ sideMax → number < 1_000 → Valid pieces t x y
+      → length (lineText level x y (earning pieces t) kind number) ≤ lineMost
   top-length {t} level x y kind number low wide high h v =
       line-length level x y (earning pieces t) kind number (omega arith) (omega arith) (omega arith)
       (omega (arith, earning-bound range (dissection-of v), most-mono x y sideMax sideMax wide high))
       h
 
-  pub listing-length : {t : Tree} (level x y : ℕ) → level + (x + y) < 1_000 → x ≤ sideMax → y ≤ sideMax → Valid pieces t x y → length (listing pieces level t x y) ≤ lineMost * nodes t
+  pub listing-length : {t : Tree} (level x y : ℕ) → level + (x + y) < 1_000 → x ≤ sideMax → y ≤ sideMax → Valid pieces t x y
+      → length (listing pieces level t x y) ≤ lineMost * nodes t
   unfolding listing nodes
-  listing-length level x y low wide high (Valid.lineV {c = c} {r = r} {s = s} {t = t} l v w) =
-      simp length-append
-      (omega (arith, top-length level x y Kind.Vertical c low wide high (omega arith) (Valid.lineV l v w), listing-length (level + 1) c y (omega arith) (omega arith) high v, listing-length (level + 1) r y (omega arith) (omega arith) high w, ap (λ (k : ℕ). length (listing pieces (level + 1) t k y)) (l .leaves)))
-  listing-length level x y low wide high (Valid.lineH {d = d} {r = r} {s = s} {t = t} l v w) =
-      simp length-append
-      (omega (arith, top-length level x y Kind.Horizontal d low wide high (omega arith) (Valid.lineH l v w), listing-length (level + 1) x d (omega arith) wide (omega arith) v, listing-length (level + 1) x r (omega arith) wide (omega arith) w, ap (λ (k : ℕ). length (listing pieces (level + 1) t x k)) (l .leaves)))
-  listing-length level x y low wide high (Valid.pieceP {k = k} n) = omega (arith, top-length level x y Kind.Piece k low wide high (omega (arith, n .last)) (Valid.pieceP n))
+  listing-length level x y low wide high (Valid.line {tall = tall} {c = c} {r = r} {s = s} {t = t} l v w) =
+      let near = part tall c (omega (arith, l .least, l .most)) in
+      let far = part tall r (omega (arith, l .least, l .most, l .leaves)) in
+      let top = top-length level x y (kindOf tall) c low wide high (omega (arith, l .most, side tall)) (Valid.line {tall = tall} l v w) in
+      let first = listing-length (level + 1) (partWidth tall x c) (partHeight tall y c) (near .0) (near .1) (near .2) v in
+      let second = listing-length (level + 1) (partWidth tall x r) (partHeight tall y r) (far .0) (far .1) (far .2) w in
+      let same = ap (λ (k : ℕ). length (listing pieces (level + 1) t (partWidth tall x k) (partHeight tall y k))) (l .leaves) in
+      simp length-append (omega (arith, top, first, second, same))
+    where
+      side : (tall : Bool) → crossed tall x y ≤ sideMax
+      side true = high
+      side false = wide
+
+      part : (tall : Bool) (k : ℕ) → k < crossed tall x y
+          → (level + 1 + (partWidth tall x k + partHeight tall y k) < 1_000) × (partWidth tall x k ≤ sideMax) × (partHeight tall y k ≤ sideMax)
+      part true k h = (omega arith, wide, omega arith)
+      part false k h = (omega arith, omega arith, high)
+  listing-length level x y low wide high (Valid.pieceP {k = k} n) =
+      omega (arith, top-length level x y Kind.Piece k low wide high (omega (arith, n .last)) (Valid.pieceP n))
   listing-length level x y low wide high Valid.scrapS = omega (arith, top-length level x y Kind.Scrap 0 low wide high (omega arith) Valid.scrapS)

@@ -1,49 +1,64 @@
 -- What only contracts inside and proofs need.
 use Prim.Native.Nat.{ℕ, _+_, _≤_}
-use mathlib.Core.Bool.{Bool, true, false, cond}
+use mathlib.Core.Bool.{Bool}
 use mathlib.Core.Path.{_≡_}
-use mathlib.Core.List.{List, _++_}
-use lib.Dec.{ltb}
-use Rattle.cutting.specs.Piece.{Piece, Lays, InRange}
-use Rattle.cutting.specs.Dissection.{rest}
-use Rattle.points.specs.Inner.{Rows}
-use Rattle.tracer.specs.Inner.{traced, traces}
-use Rattle.tracer.specs.declared.Sides.{Sides}
+use mathlib.Core.List.{List, []}
+use lib.ListN.{length}
+use Rattle.cutting.specs.Limits.{sideMax}
+use Rattle.cutting.specs.Piece.{Piece, Lays, InRange, Inside}
+use Rattle.cutting.specs.Dissection.{partWidth, partHeight}
+use Rattle.cutting.specs.Tree.{Tree, Valid, earning}
+use Rattle.board.specs.Inner.{entries}
+use Rattle.nodes.specs.Encoding.{encode}
+use Rattle.nodes.specs.Reads.{Found}
+use Rattle.nodes.specs.declared.Node.{Node}
+use Rattle.printing.specs.Inner.{Printed}
 use Rattle.listing.specs.Line.{lineText}
+use Rattle.listing.specs.Listing.{kindOf, listing}
+use Rattle.listing.specs.declared.Ends.{Ends}
 use Rattle.listing.specs.declared.Kind.{Kind}
-use Rattle.listing.specs.Listing.{listing}
+use Rattle.listing.specs.declared.Section.{Section}
 
--- "Then one line per node in file order: level (1 at the root), width, height, earning, kind, number."
+abbrev pub section : ℕ → ℕ → ℕ → ℕ → Section
+section at level x y = record { at = at; level = level; width = x; height = y }
 
--- The kind of a line.
-unfoldable pub kindOf : Bool → Kind
-kindOf true = Kind.Horizontal
-kindOf false = Kind.Vertical
+-- The part of a line that has `side` of the side that it goes through, one level below.
+abbrev pub belowOf : Section → Bool → ℕ → ℕ → Section
+belowOf q tall side at = section at (q .level + 1) (partWidth tall (q .width) side) (partHeight tall (q .height) side)
 
--- The lines of a piece that tree rule 5 cuts out, which earns e: those of `trimmed`, with a horizontal line ..
-unfoldable pub upText : ℕ → ℕ → ℕ → ℕ → ℕ → ℕ → List ℕ
-upText level x y e q k =
-    cond (ltb q y)
-    (lineText level x y e Kind.Horizontal q ++ (lineText (level + 1) x q e Kind.Piece (k + 1) ++ lineText (level + 1) x (rest y q) 0 Kind.Scrap 0))
-    (lineText level x y e Kind.Piece (k + 1))
+-- The line of a node; none where a rule is broken.
+abbrev pub ownLine : Section → ℕ → Kind → ℕ → List ℕ
+ownLine q e kind number = lineText (q .level) (q .width) (q .height) e kind number
 
--- .. and a vertical one before it.
-unfoldable pub trimText : ℕ → ℕ → ℕ → ℕ → ℕ → ℕ → ℕ → List ℕ
-trimText level x y e p q k =
-    cond (ltb p x)
-    (lineText level x y e Kind.Vertical p ++ (upText (level + 1) p y e q k ++ lineText (level + 1) (rest x p) y 0 Kind.Scrap 0))
-    (upText level x y e q k)
-
--- The lines of the tree by the tree rules.
-abbrev pub treeText : Rows → (ℕ → ℕ → ℕ) → List Piece → ℕ → Sides → List ℕ
-treeText rows cell pieces level s = listing pieces level (traced rows cell s) (s .width) (s .height)
+unfoldable pub nodeText : Section → ℕ → Node → List ℕ
+nodeText q e (Node.Line tall c) = ownLine q e (kindOf tall) c
+nodeText q e (Node.Piece k) = ownLine q e Kind.Piece k
+nodeText q e Node.Scrap = ownLine q e Kind.Scrap 0
+nodeText q e Node.Broken = []
 
 -- Each level below the root shortens a side.
 abbrev pub levelMost : ℕ
 levelMost = 1_000
 
--- What the listing may rely on: rule 6 strikes nowhere, the pieces are in range, and the level leaves room for those below.
-pub record Listable (rows : Rows) (cell : ℕ → ℕ → ℕ) (pieces : List Piece) (level : ℕ) (s : Sides) : Type 0 where
-  pub traces : traces rows cell s ≡ true
+-- What the listing may rely on: pieces in range, a part of a sheet, and a level that leaves room for those below.
+pub record MayList (pieces : List Piece) (q : Section) : Type 0 where
+  pub few : length pieces ≤ entries
   pub range : InRange (Lays pieces)
-  pub low : level + (s .width + s .height) ≤ levelMost
+  pub inside : Inside (q .width) (q .height) sideMax sideMax
+  pub low : q .level + (q .width + q .height) ≤ levelMost
+
+-- The nodes of a tree that dissects the part stand where they start, and end at `next`.
+pub record Stands (pieces : List Piece) (s : List ℕ) (q : Section) (tree : Tree) (next : ℕ) : Type 0 where
+  pub valid : Valid pieces tree (q .width) (q .height)
+  pub found : Found s (q .at) (encode tree) next
+
+-- What is answered for the tree whose nodes stand there: its earning; and where its nodes end, with its listing printed.
+abbrev pub EarnsThere : List Piece → List ℕ → Section → ℕ → Type 0
+EarnsThere pieces s q r = (tree : Tree) (next : ℕ) → Stands pieces s q tree next → r ≡ earning pieces tree
+
+pub record PrintedAs (pieces : List Piece) (q : Section) (tree : Tree) (next : ℕ) (o : List ℕ) (to : ℕ) (r : Ends) (p : List ℕ) : Type 0 where
+  pub node : r .node ≡ next
+  pub text : Printed o to (listing pieces (q .level) tree (q .width) (q .height)) (r .text) p
+
+abbrev pub ListsThere : List Piece → List ℕ → Section → List ℕ → ℕ → Ends → List ℕ → Type 0
+ListsThere pieces s q o to r p = (tree : Tree) (next : ℕ) → Stands pieces s q tree next → PrintedAs pieces q tree next o to r p

@@ -2,10 +2,10 @@
 ghost use Rattle.printing.specs.Inner.{Printed};
 ghost use Rattle.listing.specs.Line.{wordOf, spaced, ended, lineText, headText, refusedText};
 use crate::Kind;
+use crate::Section;
 use printing::put_byte;
 use printing::put_decimal;
 use printing::put_word;
-use tracer::Sides;
 
 fn put_spaced(o: &mut [u8], at: usize, n: usize) -> usize
     ensures { λ r. ⌜ Printed (now (o .entry)) at (spaced n) r (now (o .exit)) ⌝ }
@@ -36,17 +36,16 @@ fn put_kind(o: &mut [u8], at: usize, kind: Kind) -> usize
 pub(crate) fn put_line(
     o: &mut [u8],
     at: usize,
-    level: usize,
-    sides: Sides,
+    section: Section,
     earning: usize,
     kind: Kind,
     number: usize,
 ) -> usize
-    ensures { λ r. ⌜ Printed (now (o .entry)) at (lineText level (sides .width) (sides .height) earning kind number) r (now (o .exit)) ⌝ }
+    ensures { λ r. ⌜ Printed (now (o .entry)) at (lineText (section .level) (section .width) (section .height) earning kind number) r (now (o .exit)) ⌝ }
 {
-    let first = put_spaced(o, at, level);
-    let second = put_spaced(o, first, sides.width);
-    let third = put_spaced(o, second, sides.height);
+    let first = put_spaced(o, at, section.level);
+    let second = put_spaced(o, first, section.width);
+    let third = put_spaced(o, second, section.height);
     let fourth = put_spaced(o, third, earning);
     let fifth = put_kind(o, fourth, kind);
     put_ended(o, fifth, number)

@@ -1,150 +1,164 @@
 -- The reading of nodes as it computes; nobody has to believe it: `exactly` says that it reads what `ReadAs` says.
-use Prim.Native.Nat.{ℕ, _<_, zero, suc, _+_, _-_, _*_, _^_, _≤_}
-use mathlib.Core.List.{List}
-use mathlib.Core.Bool.{Bool, cond, _&&_}
-use lib.ListN.{getD, length}
+use Prim.Native.Nat.{ℕ, _<_, _+_, _-_, _*_, _^_, _≤_}
+use mathlib.Core.Path.{_≡_}
+use mathlib.Core.List.{List, [], _∷_}
+use mathlib.Core.Bool.{Bool, true, false, cond, _&&_}
+use lib.ListN.{getD, length, replicate}
 use lib.Dec.{leb, eqb}
+use Rattle.laws.specs.Inner.{deep}
+use Rattle.cutting.specs.Limits.{valueMax}
+use Rattle.cutting.specs.Piece.{Piece, pieceAt, Numbered, Lays, InRange}
+use Rattle.cutting.specs.Dissection.{rest, crossed, partWidth, partHeight, Line}
 use Rattle.cutting.specs.Tree.{Tree}
-use Rattle.laws.specs.ByIndex.{byIndex}
-use Rattle.cutting.specs.Piece.{Piece, pieceAt, Lays, InRange}
-use Rattle.cutting.specs.Limits.{sideMax, piecesMax}
-use Rattle.cutting.specs.Dissection.{rest}
+use Rattle.board.specs.Inner.{entries}
 use Rattle.fields.specs.Number.{number2Of}
-use Rattle.nodes.specs.Encoding.{letterV, letterH, letterP, letterS, nodeLength}
-use Rattle.nodes.specs.declared.Sides.{Sides}
-use Rattle.nodes.specs.declared.Frame.{Frame}
-use Rattle.nodes.specs.declared.Split.{Split}
-use Rattle.nodes.specs.declared.Tally.{Tally}
+use Rattle.fields.specs.Format.{letterV, letterH, letterP, letterS, nodeLength}
+use Rattle.nodes.specs.Reads.{Frame, frame, Tally}
 use Rattle.nodes.specs.declared.Node.{Node}
-use Rattle.nodes.specs.declared.Part.{Part}
 
 -- Each number of the tree has its two bytes.
 unfoldable pub Written : Tree → Type 0
-Written (Tree.lineV c s t) = (c < 65_536) × Written s × Written t
-Written (Tree.lineH d s t) = (d < 65_536) × Written s × Written t
+Written (Tree.line tall c s t) = (c < 65_536) × Written s × Written t
 Written (Tree.pieceP k) = k < 65_536
 Written Tree.scrapS = Unit {0}
 
--- The pieces as the reader is lent them: a row of widths, one of heights, one of values.
-
--- The first `count` pieces of the rows.
-unfoldable pub rows : List ℕ → List ℕ → List ℕ → ℕ → List Piece
-rows widths heights values count = byIndex (λ k. record { width = getD widths k 0; height = getD heights k 0; value = getD values k 0 }) count
-
--- What reading the nodes means: "A part is read and, if it is a line, its two parts are read by the same rules."
-
-abbrev pub area : Sides → ℕ
-area r = r .width * r .height
-
--- "Each area is the sum over its own leaves", and so is the value: what one leaf adds, and what two parts add up to.
-abbrev pub scrapTally : Sides → Tally
-scrapTally r = record { value = 0; pieces = 0; scrap = area r }
-
-abbrev pub pieceTally : ℕ → Sides → Tally
-pieceTally v r = record { value = v; pieces = area r; scrap = 0 }
-
-abbrev pub added : Tally → Tally → Tally
-added a b = record { value = a .value + b .value; pieces = a .pieces + b .pieces; scrap = a .scrap + b .scrap }
-
--- "S with a number other than 0"
-unfoldable pub scrapNode : ℕ → Sides → ℕ → Node
-scrapNode number r next = cond (eqb number 0) (Node.Leaf next (scrapTally r)) Node.Broken
-
--- "a piece number outside 1 to n or of another size"
-unfoldable pub isPiece : List Piece → ℕ → Sides → Bool
-isPiece pieces k r = leb 1 k && (leb k (length pieces) && (eqb (pieceAt pieces k .width) (r .width) && eqb (pieceAt pieces k .height) (r .height)))
-
-unfoldable pub pieceNode : List Piece → ℕ → Sides → ℕ → Node
-pieceNode pieces k r next = cond (isPiece pieces k r) (Node.Leaf next (pieceTally (pieceAt pieces k .value) r)) Node.Broken
+-- One node, judged by the rules for its part, which is x by y.
 
 -- "a line not inside its rectangle"
 unfoldable pub isInside : ℕ → ℕ → Bool
 isInside side c = leb 1 c && leb c (side - 1)
 
-abbrev pub acrossWidth : ℕ → Sides → ℕ → Split
-acrossWidth c r next = record { at = next; near = record { width = c; height = r .height }; far = record { width = rest (r .width) c; height = r .height } }
+abbrev pub lineNode : Bool → ℕ → ℕ → Node
+lineNode tall side c = cond (isInside side c) (Node.Line tall c) Node.Broken
 
-abbrev pub acrossHeight : ℕ → Sides → ℕ → Split
-acrossHeight d r next = record { at = next; near = record { width = r .width; height = d }; far = record { width = r .width; height = rest (r .height) d } }
+-- "a piece number outside 1 to n or of another size"
+unfoldable pub isPiece : List Piece → ℕ → ℕ → ℕ → Bool
+isPiece pieces k x y =
+    leb 1 k && (leb k (length pieces) && (eqb (pieceAt pieces k .width) x && eqb (pieceAt pieces k .height) y))
 
-unfoldable pub verticalNode : ℕ → Sides → ℕ → Node
-verticalNode c r next = cond (isInside (r .width) c) (Node.Line (acrossWidth c r next)) Node.Broken
+abbrev pub pieceNode : List Piece → ℕ → ℕ → ℕ → Node
+pieceNode pieces k x y = cond (isPiece pieces k x y) (Node.Piece k) Node.Broken
 
-unfoldable pub horizontalNode : ℕ → Sides → ℕ → Node
-horizontalNode d r next = cond (isInside (r .height) d) (Node.Line (acrossHeight d r next)) Node.Broken
+-- "S with a number other than 0"
+abbrev pub scrapNode : ℕ → Node
+scrapNode number = cond (eqb number 0) Node.Scrap Node.Broken
 
 -- "a letter not in VHPS"
-unfoldable pub letterNode : List Piece → ℕ → ℕ → Sides → ℕ → Node
-letterNode pieces letter number r next =
+unfoldable pub letterNode : List Piece → ℕ → ℕ → ℕ → ℕ → Node
+letterNode pieces letter number x y =
     cond (eqb letter letterV)
-    (verticalNode number r next)
+    (lineNode false (crossed false x y) number)
     (cond (eqb letter letterH)
-    (horizontalNode number r next)
+    (lineNode true (crossed true x y) number)
     (cond (eqb letter letterP)
-    (pieceNode pieces number r next)
-    (cond (eqb letter letterS) (scrapNode number r next) Node.Broken)))
+    (pieceNode pieces number x y)
+    (cond (eqb letter letterS) (scrapNode number) Node.Broken)))
 
 -- "nodes that end before the tree does"
 unfoldable pub nodeAt : List Piece → List ℕ → Frame → Node
 nodeAt pieces s f =
     cond (leb (f .at + nodeLength) (length s))
-    (letterNode pieces (getD s (f .at) 0) (number2Of s (f .at + 1)) (f .sides) (f .at + nodeLength))
+    (letterNode pieces (getD s (f .at) 0) (number2Of s (f .at + 1)) (f .width) (f .height))
     Node.Broken
 
-abbrev pub nearPart : Split → Frame
-nearPart p = record { at = p .at; sides = p .near }
+-- "A part is read and, if it is a line, its two parts are read by the same rules."
 
-abbrev pub farPart : Split → ℕ → Frame
-farPart p at = record { at = at; sides = p .far }
+-- A part that was read: the place after its nodes, and its leaves added up. Or a rule was broken.
+pub data Part : Type 0 where
+  Read : ℕ → Tally → Part
+  Broken : Part
 
--- Both parts of a line, the second from where the first ends, read by `read`.
-unfoldable pub joined : Tally → Part → Part
-joined a (Part.Read next b) = Part.Read next (added a b)
-joined a Part.Broken = Part.Broken
+-- "Each area is the sum over its own leaves", and so is the value: what one leaf adds, and what two parts add up to.
+abbrev pub tally : ℕ → ℕ → ℕ → Tally
+tally value pieces scrap = record { value = value; pieces = pieces; scrap = scrap }
 
-unfoldable pub after : (Frame → Part) → Split → Part → Part
-after read p (Part.Read next a) = joined a (read (farPart p next))
-after read p Part.Broken = Part.Broken
+abbrev pub scrapTally : ℕ → ℕ → Tally
+scrapTally x y = tally 0 0 (x * y)
 
-abbrev pub lineBy : (Frame → Part) → Split → Part
-lineBy read p = after read p (read (nearPart p))
+abbrev pub pieceTally : ℕ → ℕ → ℕ → Tally
+pieceTally v x y = tally v (x * y) 0
 
-unfoldable pub partBy : (Frame → Part) → Node → Part
-partBy read (Node.Leaf next a) = Part.Read next a
-partBy read (Node.Line p) = lineBy read p
-partBy read Node.Broken = Part.Broken
+abbrev pub tallyBoth : Tally → Tally → Tally
+tallyBoth a b = tally (a .value + b .value) (a .pieces + b .pieces) (a .scrap + b .scrap)
 
--- With fewer than k lines one below the other. Each line shortens a side, so that `partAt` has as many as there can be.
-unfoldable pub partWithin : ℕ → List Piece → List ℕ → Frame → Part
-partWithin zero pieces s f = Part.Broken
-partWithin (suc k) pieces s f = partBy (partWithin k pieces s) (nodeAt pieces s f)
+-- The two parts of a line, where the nodes of f start behind the line's own.
+abbrev pub nearPart : Frame → Bool → ℕ → Frame
+nearPart f tall c = frame (f .at) (partWidth tall (f .width) c) (partHeight tall (f .height) c)
+
+abbrev pub farPart : Frame → Bool → ℕ → ℕ → Frame
+farPart f tall c at =
+    let r = rest (crossed tall (f .width) (f .height)) c in
+    frame at (partWidth tall (f .width) r) (partHeight tall (f .height) r)
+
+abbrev pub behindNode : Frame → Frame
+behindNode f = frame (f .at + nodeLength) (f .width) (f .height)
+
+-- One part behind another: the second from where the first ends.
+unfoldable pub withFirst : Tally → Part → Part
+withFirst a (Part.Read next b) = Part.Read next (tallyBoth a b)
+withFirst a Part.Broken = Part.Broken
+
+unfoldable pub thenRead : Part → (ℕ → Part) → Part
+thenRead (Part.Read middle a) second = withFirst a (second middle)
+thenRead Part.Broken second = Part.Broken
+
+-- Both parts of a line, by a reader of parts.
+unfoldable pub bothParts : (Frame → Part) → Frame → Bool → ℕ → Part
+bothParts read f tall c = thenRead (read (nearPart f tall c)) (λ middle. read (farPart f tall c middle))
+
+unfoldable pub partBy : List Piece → (Frame → Part) → Frame → Node → Part
+partBy pieces read f (Node.Line tall c) = bothParts read (behindNode f) tall c
+partBy pieces read f (Node.Piece k) = Part.Read (f .at + nodeLength) (pieceTally (pieceAt pieces k .value) (f .width) (f .height))
+partBy pieces read f Node.Scrap = Part.Read (f .at + nodeLength) (scrapTally (f .width) (f .height))
+partBy pieces read f Node.Broken = Part.Broken
+
+-- Each line shortens a side, so that a part's two sides together are as many lines as there can be one below the other.
+abbrev pub around : Frame → ℕ
+around f = f .width + f .height
 
 unfoldable pub partAt : List Piece → List ℕ → Frame → Part
-partAt pieces s f = partWithin (suc (f .sides .width + f .sides .height)) pieces s f
+partAt pieces s = deep around Part.Broken (λ read f. partBy pieces read f (nodeAt pieces s f))
 
-abbrev pub lineAt : List Piece → List ℕ → Split → Part
-lineAt pieces s p = lineBy (partAt pieces s) p
+abbrev pub bothAt : List Piece → List ℕ → ℕ → ℕ → ℕ → Bool → ℕ → Part
+bothAt pieces s at x y tall c = bothParts (partAt pieces s) (frame at x y) tall c
 
--- No part is larger than the largest sheet.
-pub record Small (r : Sides) : Type 0 where
-  pub small : area r ≤ sideMax * sideMax
+-- The row of sums that the reader is lent: value, area of the pieces, area of the scrap, of the leaves read so far.
 
--- What a part's reader may rely on: pieces in range, a rectangle ("both at least 1") no larger than the largest sheet.
-pub record Ready (pieces : List Piece) (r : Sides) : Type 0 where
+abbrev pub noSums : List ℕ
+noSums = replicate 3 0
+
+abbrev pub tallyIn : List ℕ → Tally
+tallyIn sums = tally (getD sums 0 0) (getD sums 1 0) (getD sums 2 0)
+
+-- With the leaves of one more part.
+unfoldable pub grown : List ℕ → Tally → List ℕ
+grown sums t = (getD sums 0 0 + t .value) ∷ (getD sums 1 0 + t .pieces) ∷ (getD sums 2 0 + t .scrap) ∷ []
+
+-- What the readers answer for a part: the place after its nodes, and the sums have grown by its leaves; or 0, and nothing is said of the sums.
+pub data ReadsTo (before after : List ℕ) (r : ℕ) : Part → Type 0 where
+  read : {next : ℕ} {t : Tally} → r ≡ next → after ≡ grown before t → ReadsTo before after r (Part.Read next t)
+  broken : r ≡ 0 → ReadsTo before after r Part.Broken
+
+-- The row of three has room for a tally.
+pub record RoomFor (sums : List ℕ) (t : Tally) : Type 0 where
+  pub long : length sums ≡ 3
+  pub value : getD sums 0 0 + t .value < 2 ^ 32
+  pub pieces : getD sums 1 0 + t .pieces < 2 ^ 32
+  pub scrap : getD sums 2 0 + t .scrap < 2 ^ 32
+
+-- What a part's reader may rely on: pieces in range, a rectangle ("both at least 1"), and room for the most that it can add.
+pub record MayRead (pieces : List Piece) (x y : ℕ) (sums : List ℕ) : Type 0 where
+  pub few : length pieces ≤ entries
   pub range : InRange (Lays pieces)
-  pub few : length pieces ≤ piecesMax
-  pub wide : 1 ≤ r .width
-  pub high : 1 ≤ r .height
-  pub small : area r ≤ sideMax * sideMax
+  pub wide : 1 ≤ x
+  pub high : 1 ≤ y
+  pub room : RoomFor sums (tally (x * y * valueMax) (x * y) (x * y))
 
--- The same of a line's two parts, which together are no larger than the largest sheet.
-pub record ReadyLine (pieces : List Piece) (p : Split) : Type 0 where
-  pub near : Ready pieces (p .near)
-  pub far : Ready pieces (p .far)
-  pub both : area (p .near) + area (p .far) ≤ sideMax * sideMax
+-- The same of a part that a line goes through, and of one that is a piece.
+pub record MayReadLine (pieces : List Piece) (x y : ℕ) (tall : Bool) (c : ℕ) (sums : List ℕ) : Type 0 where
+  pub part : MayRead pieces x y sums
+  pub line : Line (crossed tall x y) c (rest (crossed tall x y) c)
 
--- What two parts add up to is a number of four bytes each time.
-pub record AddUp (a b : Tally) : Type 0 where
-  pub value : a .value + b .value < 2 ^ 32
-  pub pieces : a .pieces + b .pieces < 2 ^ 32
-  pub scrap : a .scrap + b .scrap < 2 ^ 32
+pub record MayReadPiece (pieces : List Piece) (k x y : ℕ) (sums : List ℕ) : Type 0 where
+  pub part : MayRead pieces x y sums
+  pub numbered : Numbered pieces k x y (pieceAt pieces k .value)

@@ -1,282 +1,154 @@
-// The nodes of a plan file: each letter's rule, and the part reader and the line reader, which call each other.
-use fields::number2;
+// The nodes of a plan file: one node judged by the rules for its part, and the part reader and the line reader, which call each other.
+// A stranger's file chooses how deep they go, so that a level carries plain numbers alone. rule.rt: the rule of each letter.
 ghost use mathlib.Core.Path.{_≡_};
-ghost use Prim.Native.Nat.{_+_, _*_, _≤_};
-ghost use Rattle.cutting.specs.Limits.{piecesMax};
-ghost use Rattle.nodes.specs.Inner.{rows, Small, Ready, ReadyLine, AddUp, area, added, isInside, scrapNode, pieceNode, verticalNode, horizontalNode, letterNode, nodeAt, partAt, lineAt};
+ghost use Prim.Native.Nat.{_*_, _^_, _≤_, _<_};
+ghost use Rattle.cutting.specs.Piece.{pieceAt};
+ghost use Rattle.board.specs.Inner.{entries, countOn, piecesOn};
+ghost use Rattle.nodes.specs.Reads.{frame};
+ghost use Rattle.nodes.specs.Inner.{nodeAt, pieceTally, partAt, bothAt, grown, tally, ReadsTo, RoomFor, MayReadPiece, MayRead, MayReadLine};
+use board::Board;
+use board::line::crossed;
+use board::line::part_height;
+use board::line::part_width;
+use board::line::rest;
+use board::piece_value;
+use fields::cast::long;
+use fields::cast::wide;
+use fields::format::NODE_LENGTH;
+use fields::number2;
+use rule::by_letter;
 
-pub struct Sides {
-    pub width: u32,
-    pub height: u32,
-}
+mod rule;
 
-// A part to be read: where its nodes start, and its sides.
-pub struct Frame {
-    pub at: usize,
-    pub sides: Sides,
-}
-
-// What a line makes of its part: where the nodes of the two parts start, and their sides.
-pub struct Split {
-    pub at: usize,
-    pub near: Sides,
-    pub far: Sides,
-}
-
-// What the leaves of a part add up to: their value, the area of the pieces and that of the scrap.
-pub struct Tally {
-    pub value: u32,
-    pub pieces: u32,
-    pub scrap: u32,
-}
-
-// One node, judged by the rules for its part: a leaf and the place after it, a line, or a rule broken.
+// One node, judged by the rules for its part: a line (tall: a horizontal one) at its number, a piece's number, scrap, or a rule broken.
 pub enum Node {
-    Leaf(usize, Tally),
-    Line(Split),
+    Line(bool, u16),
+    Piece(u16),
+    Scrap,
     Broken,
 }
 
-// A part that was read: the place after its nodes, and its leaves added up. Or a rule was broken.
-pub enum Part {
-    Read(usize, Tally),
-    Broken,
-}
+// What the leaves read so far add up to, in a row that the caller lends.
+pub const VALUE: usize = 0;
 
-fn wide(number: u16) -> u32
-    ensures { λ r. ⌜ r ≡ number ⌝ }
-{
-    number as u32
-}
+pub const PIECE_AREA: usize = 1;
 
-fn area(sides: Sides) -> u32
-    requires { ⌜ Small sides ⌝ }
-    ensures { λ r. ⌜ r ≡ area sides ⌝ }
-{
-    sides.width * sides.height
-}
+pub const SCRAP_AREA: usize = 2;
 
-// "S" 0.
-fn scrap(number: u32, sides: Sides, next: usize) -> Node
-    requires { ⌜ Small sides ⌝ }
-    ensures { λ r. ⌜ r ≡ scrapNode number sides next ⌝ }
+pub type Sums = [u32; 3];
+
+// The node that a part of this width and height starts with.
+pub fn node_at(board: &Board, nodes: &[u8], at: usize, width: usize, height: usize) -> Node
+    requires { ⌜ countOn (now board) ≤ entries ⌝ }
+    ensures { λ r. ⌜ r ≡ nodeAt (piecesOn (now (board .entry))) (now (nodes .entry)) (frame at width height) ⌝ }
 {
-    if number != 0 {
+    if nodes.len() < NODE_LENGTH {
         return Node::Broken;
     }
-    Node::Leaf(
-        next,
-        Tally {
-            value: 0,
-            pieces: 0,
-            scrap: area(sides),
-        },
-    )
+    if nodes.len() - NODE_LENGTH < at {
+        return Node::Broken;
+    }
+    by_letter(board, nodes[at], number2(nodes, at + 1), width, height)
 }
 
-// "P" piece number, of exactly this size.
-fn piece(
-    widths: &[u16; 64],
-    heights: &[u16; 64],
-    values: &[u16; 64],
-    count: u32,
-    number: u32,
-    sides: Sides,
-    next: usize,
-) -> Node
-    requires { ⌜ (count ≤ piecesMax) × Small sides ⌝ }
-    ensures { λ r. ⌜ r ≡ pieceNode (rows (now (widths .entry)) (now (heights .entry)) (now (values .entry)) count) number sides next ⌝ }
+fn area(width: usize, height: usize) -> u32
+    requires { ⌜ width * height < 2 ^ 32 ⌝ }
+    ensures { λ r. ⌜ r ≡ width * height ⌝ }
 {
-    if number == 0 {
-        return Node::Broken;
-    }
-    if number > count {
-        return Node::Broken;
-    }
-    let k = (number - 1) as usize;
-    if wide(widths[k]) != sides.width {
-        return Node::Broken;
-    }
-    if wide(heights[k]) != sides.height {
-        return Node::Broken;
-    }
-    Node::Leaf(
-        next,
-        Tally {
-            value: wide(values[k]),
-            pieces: area(sides),
-            scrap: 0,
-        },
-    )
+    (width * height) as u32
 }
 
-// Does a line at c lie inside a side?
-fn is_inside(side: u32, c: u32) -> bool
-    ensures { λ r. ⌜ r ≡ isInside side c ⌝ }
+// Adds a leaf.
+fn add_leaf(sums: &mut Sums, value: u32, pieces: u32, scrap: u32)
+    requires { ⌜ RoomFor (now sums) (tally value pieces scrap) ⌝ }
+    ensures { λ _. ⌜ now (sums .exit) ≡ grown (now (sums .entry)) (tally value pieces scrap) ⌝ }
 {
-    if c == 0 {
-        return false;
-    }
-    c < side
+    let all_value = sums[VALUE] + value;
+    let all_pieces = sums[PIECE_AREA] + pieces;
+    let all_scrap = sums[SCRAP_AREA] + scrap;
+    sums[VALUE] = all_value;
+    sums[PIECE_AREA] = all_pieces;
+    sums[SCRAP_AREA] = all_scrap;
 }
 
-// "V" c.
-fn vertical(number: u32, sides: Sides, next: usize) -> Node
-    ensures { λ r. ⌜ r ≡ verticalNode number sides next ⌝ }
+// Adds a piece by its number.
+fn add_piece(board: &Board, number: u16, width: usize, height: usize, sums: &mut Sums)
+    requires { ⌜ MayReadPiece (piecesOn (now board)) number width height (now sums) ⌝ }
+    ensures { λ _. ⌜ now (sums .exit) ≡ grown (now (sums .entry)) (pieceTally (pieceAt (piecesOn (now (board .entry))) number .value) width height) ⌝ }
 {
-    if !is_inside(sides.width, number) {
-        return Node::Broken;
-    }
-    Node::Line(Split {
-        at: next,
-        near: Sides {
-            width: number,
-            height: sides.height,
-        },
-        far: Sides {
-            width: sides.width - number,
-            height: sides.height,
-        },
-    })
+    let value = long(piece_value(board, wide(number) - 1));
+    add_leaf(sums, value, area(width, height), 0);
 }
 
-// "H" d.
-fn horizontal(number: u32, sides: Sides, next: usize) -> Node
-    ensures { λ r. ⌜ r ≡ horizontalNode number sides next ⌝ }
-{
-    if !is_inside(sides.height, number) {
-        return Node::Broken;
-    }
-    Node::Line(Split {
-        at: next,
-        near: Sides {
-            width: sides.width,
-            height: number,
-        },
-        far: Sides {
-            width: sides.width,
-            height: sides.height - number,
-        },
-    })
-}
-
-// A node by its letter and its number.
-fn by_letter(
-    widths: &[u16; 64],
-    heights: &[u16; 64],
-    values: &[u16; 64],
-    count: u32,
-    letter: u8,
-    number: u32,
-    sides: Sides,
-    next: usize,
-) -> Node
-    requires { ⌜ (count ≤ piecesMax) × Small sides ⌝ }
-    ensures { λ r. ⌜ r ≡ letterNode (rows (now (widths .entry)) (now (heights .entry)) (now (values .entry)) count) letter number sides next ⌝ }
-{
-    match letter {
-        b'V' => vertical(number, sides, next),
-        b'H' => horizontal(number, sides, next),
-        b'P' => piece(widths, heights, values, count, number, sides, next),
-        b'S' => scrap(number, sides, next),
-        _ => Node::Broken,
-    }
-}
-
-// The node that a part starts with.
-fn first_node(
-    widths: &[u16; 64],
-    heights: &[u16; 64],
-    values: &[u16; 64],
-    count: u32,
-    nodes: &[u8],
-    frame: Frame,
-) -> Node
-    requires { ⌜ (count ≤ piecesMax) × Small (frame .sides) ⌝ }
-    ensures { λ r. ⌜ r ≡ nodeAt (rows (now (widths .entry)) (now (heights .entry)) (now (values .entry)) count) (now (nodes .entry)) frame ⌝ }
-{
-    let at = frame.at;
-    let sides = frame.sides;
-    if nodes.len() < 3 {
-        return Node::Broken;
-    }
-    if nodes.len() - 3 < at {
-        return Node::Broken;
-    }
-    let number = wide(number2(nodes, at + 1));
-    by_letter(
-        widths,
-        heights,
-        values,
-        count,
-        nodes[at],
-        number,
-        sides,
-        at + 3,
-    )
-}
-
-// What two parts add up to.
-fn added(a: Tally, b: Tally) -> Tally
-    requires { ⌜ AddUp a b ⌝ }
-    ensures { λ r. ⌜ r ≡ added a b ⌝ }
-{
-    Tally {
-        value: a.value + b.value,
-        pieces: a.pieces + b.pieces,
-        scrap: a.scrap + b.scrap,
-    }
-}
-
-// Reads a part: a leaf by itself, a line with its two parts.
+// Reads a part: a leaf by itself, a line with its two parts. The place after its nodes; or 0, where no part ends: a rule is broken.
 pub fn read_part(
-    widths: &[u16; 64],
-    heights: &[u16; 64],
-    values: &[u16; 64],
-    count: u32,
+    board: &Board,
     nodes: &[u8],
-    frame: Frame,
-) -> Part
-    requires { ⌜ Ready (rows (now widths) (now heights) (now values) count) (frame .sides) ⌝ }
-    ensures { λ r. ⌜ r ≡ partAt (rows (now (widths .entry)) (now (heights .entry)) (now (values .entry)) count) (now (nodes .entry)) frame ⌝ }
+    at: usize,
+    width: usize,
+    height: usize,
+    sums: &mut Sums,
+) -> usize
+    requires { ⌜ MayRead (piecesOn (now board)) width height (now sums) ⌝ }
+    ensures { λ r. ⌜ ReadsTo (now (sums .entry)) (now (sums .exit)) r (partAt (piecesOn (now (board .entry))) (now (nodes .entry)) (frame at width height)) ⌝ }
 {
-    let first = first_node(widths, heights, values, count, nodes, frame);
-    match first {
-        Node::Leaf(next, tally) => Part::Read(next, tally),
-        Node::Line(split) => read_line(widths, heights, values, count, nodes, split),
-        Node::Broken => Part::Broken,
+    let node = node_at(board, nodes, at, width, height);
+    match node {
+        Node::Line(tall, c) => read_line(
+            board,
+            nodes,
+            at + NODE_LENGTH,
+            width,
+            height,
+            tall,
+            c,
+            sums,
+        ),
+        Node::Piece(number) => {
+            add_piece(board, number, width, height, sums);
+            at + NODE_LENGTH
+        }
+        Node::Scrap => {
+            add_leaf(sums, 0, 0, area(width, height));
+            at + NODE_LENGTH
+        }
+        Node::Broken => 0,
     }
 }
 
 // Reads the two parts of a line by the same rules, the second from where the first ends.
 fn read_line(
-    widths: &[u16; 64],
-    heights: &[u16; 64],
-    values: &[u16; 64],
-    count: u32,
+    board: &Board,
     nodes: &[u8],
-    split: Split,
-) -> Part
-    requires { ⌜ ReadyLine (rows (now widths) (now heights) (now values) count) split ⌝ }
-    ensures { λ r. ⌜ r ≡ lineAt (rows (now (widths .entry)) (now (heights .entry)) (now (values .entry)) count) (now (nodes .entry)) split ⌝ }
+    at: usize,
+    width: usize,
+    height: usize,
+    tall: bool,
+    c: u16,
+    sums: &mut Sums,
+) -> usize
+    requires { ⌜ MayReadLine (piecesOn (now board)) width height tall c (now sums) ⌝ }
+    ensures { λ r. ⌜ ReadsTo (now (sums .entry)) (now (sums .exit)) r (bothAt (piecesOn (now (board .entry))) (now (nodes .entry)) at width height tall c) ⌝ }
 {
-    let near = split.near;
-    let near_part = Frame {
-        at: split.at,
-        sides: near,
-    };
-    let first = read_part(widths, heights, values, count, nodes, near_part);
-    let Part::Read(middle, a) = first else {
-        return first;
-    };
-    let far = split.far;
-    let far_part = Frame {
-        at: middle,
-        sides: far,
-    };
-    let second = read_part(widths, heights, values, count, nodes, far_part);
-    let Part::Read(next, b) = second else {
-        return second;
-    };
-    Part::Read(next, added(a, b))
+    let near = wide(c);
+    let middle = read_part(
+        board,
+        nodes,
+        at,
+        part_width(tall, width, near),
+        part_height(tall, height, near),
+        sums,
+    );
+    if middle == 0 {
+        return 0;
+    }
+    let far = rest(crossed(tall, width, height), near);
+    read_part(
+        board,
+        nodes,
+        middle,
+        part_width(tall, width, far),
+        part_height(tall, height, far),
+        sums,
+    )
 }

@@ -3,37 +3,37 @@
 use Prim.Native.Nat.{ℕ, _≤_}
 use mathlib.Core.Bool.{true}
 use mathlib.Core.List.{List}
-use mathlib.Core.Path.{_≡_, sym, ap, _∙_, subst}
+use mathlib.Core.Logic.{⊎-elim}
+use mathlib.Core.Path.{_≡_, refl, sym, ap, _∙_, subst}
 use native.Mathlib.Omega.{arith}
 use lib.ListN.{length}
-use Rattle.cutting.specs.Piece.{Inside, Lays}
+use Rattle.laws.specs.Inner.{everyNumber, PassesAt, StopsAt, rowsBefore}
+use Rattle.laws.proofs.Refusal.{stopped, granted-before}
+use Rattle.cutting.specs.Piece.{Inside}
 use Rattle.cutting.specs.Dissection.{Best}
 use Rattle.cutting.proofs.Bound.{best-bound}
-use Rattle.cells.specs.Cells.{empty, cellOf}
-use Rattle.cells.specs.Box.{isEmpty}
-use Rattle.cells.proofs.Box.{anyInBox-says, isEmpty-says}
+use Rattle.cells.specs.Cells.{cellOf}
 use Rattle.fill.specs.Filled.{Full}
 use Rattle.job.specs.declared.Job.{Job}
-use Rattle.job.specs.Job.{piecesOf}
-use Rattle.tracer.specs.Inner.{by, Dissects}
-use Rattle.tracer.proofs.Best.{traced-best}
-use Rattle.desk.specs.Refusals.{Usable, JobRefusal}
-use Rattle.desk.specs.Inner.{jobRows}
+use Rattle.job.specs.Job.{piecesOf, layOf}
+use Rattle.tracer.specs.Inner.{Dissects}
+use Rattle.tracer.proofs.Best.{best-traced}
+use Rattle.desk.specs.Refusals.{notInside, notAsked, alienTable, Usable}
 use Rattle.plan.specs.declared.Planned.{Planned}
 use Rattle.plan.specs.declared.Planned.the-variants.{Written}
 use Rattle.plan.specs.File.{TreeFor}
-use Rattle.plan.specs.Inner.{treeFor, tracesFor, planFile, answerWith, planned, PlanPromise, HoldsBest}
-use Rattle.plan.specs.Refusals.{Readable, PlanRefusal}
+use Rattle.plan.specs.Inner.{treeFor, tracesFor, planFile, plannedWith, planned, PlanPromise, HoldsBest}
+use Rattle.plan.specs.Refusals.{Readable, planRefusals, PlanRefusal}
 use Rattle.plan.specs.Enough.{planEnough}
 pub use Rattle.plan.specs.Best.{PlansBest}
-use Rattle.plan.proofs.Tracing.{rows-hold-pieces, rows-mark-points, tree-by-rules, tree-dissects}
-use Rattle.plan.proofs.Exactly.{empty-says, plan-only}
+use Rattle.plan.proofs.Tracing.{hold, tree-by-rules, rules-tree, tree-dissects}
+use Rattle.plan.proofs.Exactly.{plan-number, plan-accepted}
 use Rattle.plan.proofs.Enough.{plan-enough}
 use Rattle.plan.proofs.Promise.{plan-file}
 
 module _ (job : Job) (t : List ℕ) (usable : Usable job t) (best : HoldsBest job t) (x y : ℕ) where
   module _ (i : Inside x y (job .width) (job .height)) (full : Full (job .width) t x y) where
-    box-best : (u w : ℕ) → Inside u w x y → Best (Lays (piecesOf job)) u w (cellOf (job .width) t u w)
+    box-best : (u w : ℕ) → Inside u w x y → Best (layOf job) u w (cellOf (job .width) t u w)
     box-best u w j = best u w (omega arith) (full u w j)
 
     -- A full box can be read, and rule 6 strikes nowhere in it.
@@ -42,53 +42,57 @@ module _ (job : Job) (t : List ℕ) (usable : Usable job t) (best : HoldsBest jo
 
     pub best-traces : tracesFor job t x y ≡ true
     best-traces =
-        let r = usable .range in
-        traced-best (piecesOf job) (jobRows job) (cellOf (job .width) t) (job .width) (job .height) x y (rows-hold-pieces job (r .countMost)) (rows-mark-points job (r .countMost) (r .widthMost) (r .heightMost)) (r .pieces) (i .widthMost) (i .heightMost) box-best (by x y) (omega arith) .0
+        let held = hold job t x y best-readable in
+        let tree = best-traced held (usable .range .pieces) (cellOf (job .width) t) x y (i .widthMost) (i .heightMost) box-best x y (omega arith) in
+        rules-tree job t x y best-readable (tree .1) .0
 
     pub best-tree : TreeFor job t x y (treeFor job t x y)
     best-tree = tree-by-rules job t x y best-readable best-traces
 
-    best-dissects : Dissects (piecesOf job) (treeFor job t x y) (by x y) (cellOf (job .width) t x y)
+    best-dissects : Dissects (piecesOf job) (treeFor job t x y) x y (cellOf (job .width) t x y)
     best-dissects = tree-dissects job t x y best-readable best-tree
 
   -- "On a table kept so, refusal 7 never arises".
-  pub never-seven : {room k : ℕ} → PlanRefusal job t x y room k → k ≡ 7 → ⊥
-  never-seven (PlanRefusal.job (JobRefusal.job h)) e = omega arith
-  never-seven (PlanRefusal.job (JobRefusal.table r h)) e = omega arith
-  never-seven (PlanRefusal.question u h) e = omega arith
-  never-seven (PlanRefusal.empty u i h) e = omega arith
-  never-seven (PlanRefusal.excess u i f h) e = h (best-readable i f .bounded)
-  never-seven (PlanRefusal.struck r h) e = h _ (best-tree (r .inside) (r .full))
-  never-seven (PlanRefusal.long r g h) e = omega arith
-  never-seven (PlanRefusal.none r g h) e = omega arith
+  pub never-seven : (room : ℕ) → PlanRefusal job t x y room alienTable → ⊥
+  unfolding planRefusals rowsBefore everyNumber PassesAt StopsAt
+  never-seven room g =
+      let rows = planRefusals job t x y room in
+      let fact = granted-before rows alienTable (λ e. omega arith) refl g in
+      let i = fact notInside .0 in
+      let full = fact notAsked .0 in
+      ⊎-elim (λ n. n (best-readable i full .bounded)) (⊎-elim (λ n. n (treeFor job t x y, best-tree i full)) (λ z. z))
+      (stopped rows alienTable (λ e. omega arith) g)
 
-  -- Refusal 6: some cell of the box is empty.
-  pub six-empty : {room k : ℕ} → PlanRefusal job t x y room k → k ≡ 6 → (u : ℕ) × (w : ℕ) × Inside u w x y × (cellOf (job .width) t u w ≡ empty)
-  six-empty (PlanRefusal.job (JobRefusal.job h)) e = absurd (omega arith)
-  six-empty (PlanRefusal.job (JobRefusal.table r h)) e = absurd (omega arith)
-  six-empty (PlanRefusal.question u h) e = absurd (omega arith)
-  six-empty (PlanRefusal.empty u i h) e =
-      let k = anyInBox-says x y (isEmpty (job .width) t) .means (empty-says (job .width) t x y .found h) in
-      (k .0, k .1, k .2, isEmpty-says (job .width) t (k .0) (k .1) .means (k .3))
-  six-empty (PlanRefusal.excess u i f h) e = absurd (omega arith)
-  six-empty (PlanRefusal.struck r h) e = absurd (omega arith)
-  six-empty (PlanRefusal.long r g h) e = absurd (omega arith)
-  six-empty (PlanRefusal.none r g h) e = absurd (omega arith)
+  -- Refusal 6: the box is not full.
+  pub six-empty : (room : ℕ) → PlanRefusal job t x y room notAsked → Full (job .width) t x y → ⊥
+  unfolding planRefusals StopsAt
+  six-empty room g full = ⊎-elim (λ n. n full) (λ z. z) (stopped (planRefusals job t x y room) notAsked (λ e. omega arith) g)
 
   -- With room in the buffer plan writes.
-  pub plan-writes : (i : Inside x y (job .width) (job .height)) → Full (job .width) t x y → (o : List ℕ) → length (planFile job t x y) ≤ length o → {r : Planned} {p : List ℕ} → PlanPromise job t x y o r p → PlansBest job x y r p
+  pub plan-writes : (i : Inside x y (job .width) (job .height)) → Full (job .width) t x y → (o : List ℕ) → length (planFile job t x y) ≤ length o
+      → {r : Planned} {p : List ℕ} → PlanPromise job t x y o r p → PlansBest job x y r p
   unfolding planned
   plan-writes i full o room {r} {p} f =
-      record { tree = treeFor job t x y; value = cellOf (job .width) t x y; valid = best-dissects i full .valid; earns = best-dissects i full .earns; best = box-best i full x y (omega arith); written = written; file = plan-file job t x y o g }
+      record {
+        tree = treeFor job t x y;
+        value = cellOf (job .width) t x y;
+        valid = best-dissects i full .valid;
+        earns = best-dissects i full .earns;
+        best = box-best i full x y (omega arith);
+        written = written;
+        file = plan-file job t x y o g;
+      }
     where
       written : r ≡ Written (length (planFile job t x y)) (cellOf (job .width) t x y)
       written =
-          f .0 ∙ ap (λ (k : ℕ). answerWith k (length (planFile job t x y)) (cellOf (job .width) t x y)) (sym (plan-only job t x y (length o) (PlanRefusal.none (best-readable i full) (best-tree i full) room)))
+          let none = plan-number job t x y (length o) .0 (plan-accepted job t x y (length o) (best-readable i full) (best-tree i full) room) in
+          f .0 ∙ ap (λ (k : ℕ). plannedWith k (length (planFile job t x y)) (cellOf (job .width) t x y)) (sym none)
 
       g : PlanPromise job t x y o (Written (length (planFile job t x y)) (cellOf (job .width) t x y)) p
       g = subst (λ (s : Planned). PlanPromise job t x y o s p) written f
 
   -- KHON_PLAN_ENOUGH bytes are room enough.
-  pub plan-writes-enough : (i : Inside x y (job .width) (job .height)) → Full (job .width) t x y → (o : List ℕ) → planEnough (job .count) x y ≤ length o → {r : Planned} {p : List ℕ} → PlanPromise job t x y o r p → PlansBest job x y r p
+  pub plan-writes-enough : (i : Inside x y (job .width) (job .height)) → Full (job .width) t x y → (o : List ℕ) → planEnough (job .count) x y ≤ length o
+      → {r : Planned} {p : List ℕ} → PlanPromise job t x y o r p → PlansBest job x y r p
   plan-writes-enough i full o enough =
       plan-writes i full o (omega (arith, plan-enough job (best-dissects i full .valid) (i .widthLeast) (i .heightLeast)))

@@ -14,16 +14,17 @@ use Rattle.desk.proofs.Answers.{given}
 use Rattle.plan.specs.declared.Planned.{Planned}
 use Rattle.plan.specs.declared.Planned.the-variants.{Written}
 use Rattle.plan.specs.File.{fileOf}
-use Rattle.plan.specs.Inner.{planFile, planRefused, answerWith, planned, plannedBytes, PlanPromise}
+use Rattle.plan.specs.Inner.{planFile, planRefused, plannedWith, planned, plannedBytes, PlanPromise}
 use Rattle.plan.specs.Refusals.{PlanRefusal}
 use Rattle.plan.specs.Planning.{Plans}
 use Rattle.plan.proofs.Tracing.{tree-by-rules, rules-tree}
-use Rattle.plan.proofs.Exactly.{plan-refusal, plan-only, plan-granted}
+use Rattle.plan.proofs.Exactly.{plan-number, plan-granted, plan-accepted}
 use Rattle.plan.proofs.Answers.{refused-answer}
 
 module _ (job : Job) (t : List ℕ) (x y : ℕ) (o : List ℕ) where
   -- What is answered with the list's number, and what the buffer holds then.
-  answers : (k : ℕ) → k ≡ planRefused job t x y (length o) → PlanRefusal job t x y (length o) k → Plans job t x y o (answerWith k (length (planFile job t x y)) (cellOf (job .width) t x y)) (accepted k (put o 0 (planFile job t x y)) o)
+  answers : (k : ℕ) → k ≡ planRefused job t x y (length o) → PlanRefusal job t x y (length o) k
+      → Plans job t x y o (plannedWith k (length (planFile job t x y)) (cellOf (job .width) t x y)) (accepted k (put o 0 (planFile job t x y)) o)
   unfolding accepted
   answers zero e h =
       let r = plan-granted job t x y o e refl in
@@ -33,17 +34,18 @@ module _ (job : Job) (t : List ℕ) (x y : ℕ) (o : List ℕ) where
   promise-plans : {r : Planned} {p : List ℕ} → PlanPromise job t x y o r p → Plans job t x y o r p
   unfolding planned plannedBytes
   promise-plans f =
-      rw (f .0, f .1) (answers (planRefused job t x y (length o)) refl (plan-refusal job t x y (length o)))
+      rw (f .0, f .1) (answers (planRefused job t x y (length o)) refl (plan-number job t x y (length o) .1 refl))
 
   plans-promise : {r : Planned} {p : List ℕ} → Plans job t x y o r p → PlanPromise job t x y o r p
   unfolding planned plannedBytes
   plans-promise (Plans.written {tree} r k h) =
-      let none = plan-only job t x y (length o) (PlanRefusal.none r k h) in
+      let none = plan-number job t x y (length o) .0 (plan-accepted job t x y (length o) r k h) in
       let same = rules-tree job t x y r k .1 in (
-        ap (λ (u : Tree). Written (length (fileOf job x y u)) (cellOf (job .width) t x y)) same ∙ ap (λ (n : ℕ). answerWith n (length (planFile job t x y)) (cellOf (job .width) t x y)) none,
+        ap (λ (u : Tree). Written (length (fileOf job x y u)) (cellOf (job .width) t x y)) same
+            ∙ ap (λ (n : ℕ). plannedWith n (length (planFile job t x y)) (cellOf (job .width) t x y)) none,
         ap (λ (u : Tree). put o 0 (fileOf job x y u)) same ∙ given (put o 0 (planFile job t x y)) o none refl,
       )
-  plans-promise (Plans.refused h) = refused-answer _ _ _ (plan-only job t x y (length o) h) (λ e. omega arith)
+  plans-promise (Plans.refused h) = refused-answer _ _ _ (plan-number job t x y (length o) .0 h) (λ e. omega arith)
 
   pub plan-exactly : {r : Planned} {p : List ℕ} → PlanPromise job t x y o r p ↔ Plans job t x y o r p
   plan-exactly = (promise-plans, plans-promise)

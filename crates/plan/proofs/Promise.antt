@@ -19,18 +19,19 @@ use Rattle.desk.proofs.Answers.{given}
 use Rattle.plan.specs.declared.Planned.{Planned}
 use Rattle.plan.specs.declared.Planned.the-variants.{Written}
 use Rattle.plan.specs.File.{sheetOf}
-use Rattle.plan.specs.Inner.{treeFor, planFile, planRefused, answerWith, planned, plannedBytes, Ready, PlanPromise, AcceptedAs}
+use Rattle.plan.specs.Inner.{treeFor, planFile, planRefused, plannedWith, planned, plannedBytes, Ready, PlanPromise, AcceptedAs}
 use Rattle.plan.proofs.Tracing.{tree-by-rules, tree-dissects}
 use Rattle.plan.proofs.Writing.{sheet-pieces}
 use Rattle.plan.proofs.Exactly.{plan-granted}
 use Rattle.plan.proofs.Answers.{cell-earned, file-short}
 
 -- "Any two answers that satisfy it are shown equal": answer and all bytes.
-pub plan-unique : (job : Job) (t : List ℕ) (x y : ℕ) (o : List ℕ) {r s : Planned} {p q : List ℕ} → PlanPromise job t x y o r p → PlanPromise job t x y o s q → (r ≡ s) × (p ≡ q)
+pub plan-unique : (job : Job) (t : List ℕ) (x y : ℕ) (o : List ℕ) {r s : Planned} {p q : List ℕ} → PlanPromise job t x y o r p → PlanPromise job t x y o s q
+    → (r ≡ s) × (p ≡ q)
 plan-unique job t x y o f g = (f .0 ∙ sym (g .0), f .1 ∙ sym (g .1))
 
 -- What an answer says of the refusal, the length and the value.
-written-says : {n v bytes value : ℕ} (k : ℕ) → Written n v ≡ answerWith k bytes value → (k ≡ 0) × (n ≡ bytes) × (v ≡ value)
+written-says : {n v bytes value : ℕ} (k : ℕ) → Written n v ≡ plannedWith k bytes value → (k ≡ 0) × (n ≡ bytes) × (v ≡ value)
 written-says zero e = (refl, cc, cc)
 written-says (suc k) e = let z : _≡_ {A = ℕ} 0 1 = cc in absurd (omega arith)
 
@@ -83,12 +84,13 @@ module _ (job : Job) (t : List ℕ) (x y : ℕ) (o : List ℕ) where
     -- Whenever plan writes, check accepts the file, with note length 0, the answered value, and areas that make x by y.
     pub plan-checked : AcceptedAs (take n p) x y value
     plan-checked =
+        let earned = cell-earned job t x y (ready .readable) (ready .traces) plan-value in
         record {
           pieceArea = pieceArea (piecesOf sheet) tree;
           scrapArea = scrapArea tree x y;
           answer =
               ap checked plan-file
               ∙ (sym (plan-accepted [] sheet tree range valid (file-short job t x y (ready .readable) (ready .traces)))
-              ∙ ap (λ (v : ℕ). Checked.Accepted v 0 (pieceArea (piecesOf sheet) tree) (scrapArea tree x y)) (sym (cell-earned job t x y (ready .readable) (ready .traces) plan-value)));
+              ∙ ap (λ (v : ℕ). Checked.Accepted v 0 (pieceArea (piecesOf sheet) tree) (scrapArea tree x y)) (sym earned));
           areas = areas valid;
         }

@@ -1,119 +1,112 @@
--- The tree of a job's table: the rows that the tracing reads are the job's, so that it is the tree by the rules.
-use Prim.Native.Nat.{ℕ, _≤_}
-use mathlib.Core.Bool.{Bool, true, false, cond}
+-- The tree of a job's table: the board holds the job, so that it is the tree by the rules.
+use Prim.Native.Nat.{ℕ, _+_, _≤_, _<_}
+use mathlib.Core.Bool.{true, cond}
 use mathlib.Core.List.{List}
-use mathlib.Core.Path.{_≡_, refl, sym, _∙_, subst}
+use mathlib.Core.Path.{_≡_, sym, ap, _∙_, subst}
+use mathlib.Core.Logic.{inl}
 use native.Mathlib.Omega.{arith}
 use lib.ListN.{length}
-use Rattle.laws.specs.Inner.{Says}
-use Rattle.cutting.specs.Limits.{sideMax, piecesMax}
-use Rattle.cutting.specs.Piece.{Piece, Inside}
+use Rattle.laws.specs.Inner.{Says, Room, Wrote}
 use Rattle.cutting.specs.Tree.{Tree, Valid, earning}
 use Rattle.cells.specs.Cells.{cellOf}
 use Rattle.cells.proofs.Places.{holds-lower}
-use Rattle.points.specs.Inner.{Rows}
-use Rattle.nodes.specs.Inner.{rows}
+use Rattle.board.specs.Inner.{rowsOn, boardOf, widthOn, Hold}
+use Rattle.board.proofs.Holds.{board-holds, board-width, board-count}
 use Rattle.nodes.specs.Encoding.{encode}
 use Rattle.job.specs.declared.Job.{Job}
 use Rattle.job.specs.Job.{piecesOf}
-use Rattle.job.specs.Inner.{rowOf}
-use Rattle.tracer.specs.declared.Measured.{Measured}
-use Rattle.tracer.specs.Inner.{by, nodesOf, measured, lengthMost, Ready, HoldsPieces, MarksPoints, Dissects}
-use Rattle.tracer.proofs.Depth.{Real}
-use Rattle.tracer.proofs.Rules.{short-length}
-use Rattle.tracer.proofs.Traced.{measured-short}
-use Rattle.tracer.proofs.Rows.{rows-hold, rows-mark}
-use Rattle.tracer.proofs.ByRules.{traced-by-rules, rules-trace, rules-only, traces-says, rules-dissect}
-use Rattle.checker.proofs.Stages.{rows-of}
-use Rattle.desk.specs.Refusals.{Usable}
-use Rattle.desk.specs.Inner.{jobRows, rowsOfPieces}
+use Rattle.tracer.specs.Inner.{waste, whole, traced, measured, lengthMost, Sized, OnTable, Traceable, Dissects}
+use Rattle.tracer.proofs.Traced.{measured-most}
+use Rattle.laws.proofs.Wrote.{wrote-as}
+use Rattle.tracer.proofs.ByRules.{traced-by-rules, rules-trace, rules-only, traces-says}
+use Rattle.tracer.proofs.Valid.{rules-dissect}
+use Rattle.desk.specs.Inner.{jobRows}
 use Rattle.desk.proofs.Exactly.{usable-holds}
 use Rattle.plan.specs.File.{TreeFor}
 use Rattle.plan.specs.Inner.{treeFor, tracesFor}
 use Rattle.plan.specs.Refusals.{Readable}
 
--- The rows hold the job's pieces, and their marks are its points.
-module _ (job : Job) (few : job .count ≤ piecesMax) where
-  abbrev row : (Piece → ℕ) → List ℕ
-  row number = rowOf number (piecesOf job)
+module _ (job : Job) (t : List ℕ) (x y : ℕ) (r : Readable job t x y) where
+  pub hold : Hold (jobRows job) (piecesOf job) (job .width) (job .height)
+  unfolding jobRows
+  hold = board-holds job (r .usable .range)
 
-  same-pieces : rows (row (λ p. p .width)) (row (λ p. p .height)) (row (λ p. p .value)) (job .count) ≡ piecesOf job
-  same-pieces = rows-of job few refl refl refl refl
+  few : jobRows job .count < waste
+  unfolding jobRows rowsOn
+  few = omega (arith, board-count job (r .usable .range .countMost), r .usable .range .countMost)
 
-  pub rows-hold-pieces : HoldsPieces (jobRows job) (piecesOf job)
-  unfolding jobRows rowsOfPieces
-  rows-hold-pieces = subst (HoldsPieces (jobRows job)) same-pieces (rows-hold (row (λ p. p .width)) (row (λ p. p .height)) (row (λ p. p .value)) (job .count) _ _)
+  sized : Sized (jobRows job)
+  sized k h =
+      let n = hold .lists .piece k h in
+      let g = r .usable .range .pieces _ _ _ (record { number = k + 1; numbered = n }) in
+      (g .widthLeast, g .heightLeast)
 
-  pub rows-mark-points : job .width ≤ sideMax → job .height ≤ sideMax → MarksPoints (jobRows job) (piecesOf job) (job .width) (job .height)
-  unfolding jobRows rowsOfPieces
-  rows-mark-points h k =
-      subst (λ ps. MarksPoints (jobRows job) ps (job .width) (job .height)) same-pieces (rows-mark (row (λ p. p .width)) (row (λ p. p .height)) (row (λ p. p .value)) (job .count) (job .width) (job .height) h k)
-
-module _ (job : Job) (t : List ℕ) (x y : ℕ) where
-  -- The table can be traced from x by y, with the code's count and width.
-  pub trace-ready : {n a : ℕ} → Usable job t × Inside x y (job .width) (job .height) → n ≡ job .count → a ≡ job .width → Ready a n t (by x y)
-  trace-ready {n} u e f =
-      let i = u .1 in
-      subst (λ (a : ℕ). Ready a n t (by x y)) (sym f)
+  -- The table has the cells of x by y, with the code's width.
+  pub on-table : {a : ℕ} → a ≡ job .width → OnTable a t x y
+  on-table e =
+      let i = r .inside in
+      subst (λ (a : ℕ). OnTable a t x y) (sym e)
       (record {
-        few = omega (arith, u .0 .range .countMost);
-        table = record { holds = holds-lower y (usable-holds job t (u .0)) (i .heightLeast) (i .heightMost); inside = record { widthLeast = i .widthLeast; widthMost = i .widthMost; heightLeast = i .heightLeast; heightMost = omega arith } };
+        holds = holds-lower y (usable-holds job t (r .usable)) (i .heightLeast) (i .heightMost);
+        inside = record { widthLeast = i .widthLeast; widthMost = i .widthMost; heightLeast = i .heightLeast; heightMost = omega arith };
       })
 
-  -- What is measured and what is written, with the code's rows and width.
-  pub measured-as : {rows : Rows} {a : ℕ} {m : Measured} → rows ≡ jobRows job → a ≡ job .width → m ≡ measured rows (cellOf a t) (by x y) → m ≡ measured (jobRows job) (cellOf (job .width) t) (by x y)
-  measured-as e f g = g ∙ (λ i. measured (e i) (cellOf (f i) t) (by x y))
+  -- The table can be traced from x by y.
+  pub traceable : {board : List ℕ} → board ≡ boardOf job → Traceable board t (whole x y)
+  unfolding jobRows rowsOn
+  traceable e =
+      let most = r .usable .range .countMost in
+      subst (λ (b : List ℕ). Traceable b t (whole x y)) (sym e)
+      (record { few = omega (arith, board-count job most, most); sized = sized; wanted = inl (omega arith); table = on-table (board-width job most) })
 
-  pub nodes-as : {rows : Rows} {a : ℕ} → rows ≡ jobRows job → a ≡ job .width → nodesOf rows (cellOf a t) (by x y) ≡ encode (treeFor job t x y)
-  nodes-as e f = λ i. nodesOf (e i) (cellOf (f i) t) (by x y)
+  -- The tree that is traced is the tree by the rules, there is no other, and where rule 6 strikes there is none.
+  pub tree-by-rules : tracesFor job t x y ≡ true → TreeFor job t x y (treeFor job t x y)
+  tree-by-rules = traced-by-rules hold (r .usable .range .pieces) few (cellOf (job .width) t) x y (r .inside)
 
-  -- Rule 6 strikes, or the nodes have a length.
-  pub measured-struck : {m : Measured} → m ≡ measured (jobRows job) (cellOf (job .width) t) (by x y) → m ≡ Measured.Struck → tracesFor job t x y ≡ false
-  unfolding measured
-  measured-struck e f = go (tracesFor job t x y) (sym f ∙ e)
-    where
-      go : (b : Bool) → Measured.Struck ≡ cond b (Measured.Length (length (encode (treeFor job t x y)))) Measured.Struck → b ≡ false
-      go true g = let z : _≡_ {A = ℕ} 0 1 = cc in absurd (omega arith)
-      go false g = refl
+  pub rules-tree : {tree : Tree} → TreeFor job t x y tree → (tracesFor job t x y ≡ true) × (tree ≡ treeFor job t x y)
+  rules-tree k =
+      let is = rules-trace hold (r .usable .range .pieces) few (cellOf (job .width) t) (r .inside) k in
+      (is .0, sym (is .1))
 
-  pub measured-length : {m : Measured} {n : ℕ} → m ≡ measured (jobRows job) (cellOf (job .width) t) (by x y) → m ≡ Measured.Length n → (tracesFor job t x y ≡ true) × (n ≡ length (encode (treeFor job t x y)))
-  unfolding measured
-  measured-length {n = n} e f = go (tracesFor job t x y) (sym f ∙ e)
-    where
-      go : (b : Bool) → Measured.Length n ≡ cond b (Measured.Length (length (encode (treeFor job t x y)))) Measured.Struck → (b ≡ true) × (n ≡ length (encode (treeFor job t x y)))
-      go true g = (refl, cc)
-      go false g = let z : _≡_ {A = ℕ} 0 1 = cc in absurd (omega arith)
+  pub tree-only : {tree other : Tree} → TreeFor job t x y tree → TreeFor job t x y other → tree ≡ other
+  tree-only = rules-only hold (r .usable .range .pieces) few (cellOf (job .width) t) (r .inside)
 
-  module _ (r : Readable job t x y) where
-    hold : HoldsPieces (jobRows job) (piecesOf job)
-    hold = rows-hold-pieces job (r .usable .range .countMost)
+  pub tree-says : Says (tracesFor job t x y) ((tree : Tree) × TreeFor job t x y tree)
+  tree-says = traces-says hold (r .usable .range .pieces) few (cellOf (job .width) t) x y (r .inside)
 
-    mark : MarksPoints (jobRows job) (piecesOf job) (job .width) (job .height)
-    mark = rows-mark-points job (r .usable .range .countMost) (r .usable .range .widthMost) (r .usable .range .heightMost)
+  -- It dissects x by y and earns "the number in its cell", on any table.
+  pub tree-dissects : {tree : Tree} → TreeFor job t x y tree → Dissects (piecesOf job) tree x y (cellOf (job .width) t x y)
+  tree-dissects = rules-dissect (r .usable .range .pieces)
 
-    -- The tree that is traced is the tree by the rules, there is no other, and where rule 6 strikes there is none.
-    pub tree-by-rules : tracesFor job t x y ≡ true → TreeFor job t x y (treeFor job t x y)
-    tree-by-rules = traced-by-rules hold mark (cellOf (job .width) t) x y (r .inside)
+  pub tree-earns : {tree : Tree} → TreeFor job t x y tree → Valid (piecesOf job) tree x y × (earning (piecesOf job) tree ≡ cellOf (job .width) t x y)
+  tree-earns b = let d = tree-dissects b in (d .valid, d .earns)
 
-    pub rules-tree : {tree : Tree} → TreeFor job t x y tree → (tracesFor job t x y ≡ true) × (tree ≡ treeFor job t x y)
-    rules-tree = rules-trace hold mark (cellOf (job .width) t) (r .inside)
+  -- What is measured and what is written with the board of the job.
+  module _ {board : List ℕ} (is : board ≡ boardOf job) where
+    pub measured-as : {n : ℕ} → n ≡ measured (rowsOn board) (cellOf (widthOn board) t) (whole x y)
+        → n ≡ cond (tracesFor job t x y) (length (encode (treeFor job t x y))) 0
+    unfolding measured jobRows
+    measured-as e =
+        e ∙ (ap (λ (b : List ℕ). measured (rowsOn b) (cellOf (widthOn b) t) (whole x y)) is
+        ∙ ap (λ (a : ℕ). measured (rowsOn (boardOf job)) (cellOf a t) (whole x y)) (board-width job (r .usable .range .countMost)))
 
-    pub tree-only : {tree other : Tree} → TreeFor job t x y tree → TreeFor job t x y other → tree ≡ other
-    tree-only = rules-only hold mark (cellOf (job .width) t) (r .inside)
+    pub measured-short : {n : ℕ} → n ≡ measured (rowsOn board) (cellOf (widthOn board) t) (whole x y) → n ≤ lengthMost
+    measured-short e =
+        let i = r .inside in
+        let u = r .usable .range in
+        let most = measured-most (rowsOn board) (cellOf (widthOn board) t) (whole x y) in
+        omega (arith, e, most (i .widthLeast) (omega (arith, i .widthMost, u .widthMost)) (i .heightLeast) (omega (arith, i .heightMost, u .heightMost)))
 
-    pub tree-says : Says (tracesFor job t x y) ((tree : Tree) × TreeFor job t x y tree)
-    tree-says = traces-says hold mark (cellOf (job .width) t) x y (r .inside)
+    nodes-as : encode (traced (rowsOn board) (cellOf (widthOn board) t) (whole x y)) ≡ encode (treeFor job t x y)
+    unfolding jobRows
+    nodes-as =
+        ap (λ (b : List ℕ). encode (traced (rowsOn b) (cellOf (widthOn b) t) (whole x y))) is
+        ∙ ap (λ (a : ℕ). encode (traced (rowsOn (boardOf job)) (cellOf a t) (whole x y))) (board-width job (r .usable .range .countMost))
 
-    -- It dissects x by y and earns "the number in its cell", on any table.
-    pub tree-dissects : {tree : Tree} → TreeFor job t x y tree → Dissects (piecesOf job) tree (by x y) (cellOf (job .width) t x y)
-    tree-dissects = rules-dissect hold mark (cellOf (job .width) t) (r .usable .range .pieces) (r .inside)
+    pub nodes-room : {o : List ℕ} {at : ℕ} → Room o at (encode (treeFor job t x y))
+        → Room o at (encode (traced (rowsOn board) (cellOf (widthOn board) t) (whole x y)))
+    nodes-room {o} {at} = subst (Room o at) (sym nodes-as)
 
-    pub tree-earns : {tree : Tree} → TreeFor job t x y tree → Valid (piecesOf job) tree x y × (earning (piecesOf job) tree ≡ cellOf (job .width) t x y)
-    tree-earns b = let d = tree-dissects b in (d .valid, d .earns)
-
-    sides-real : Real (by x y)
-    sides-real = record { wide = r .inside .widthLeast; high = r .inside .heightLeast }
-
-    pub nodes-short : {m : Measured} {n : ℕ} → m ≡ measured (jobRows job) (cellOf (job .width) t) (by x y) → m ≡ Measured.Length n → n ≤ lengthMost
-    nodes-short e f =
-        short-length (measured-short (jobRows job) (cellOf (job .width) t) (by x y) sides-real (omega (arith, r .inside .widthMost, r .usable .range .widthMost)) (omega (arith, r .inside .heightMost, r .usable .range .heightMost)) e) f
+    pub nodes-wrote : {o p : List ℕ} {at n : ℕ} → Wrote o at (encode (traced (rowsOn board) (cellOf (widthOn board) t) (whole x y))) n p
+        → Wrote o at (encode (treeFor job t x y)) n p
+    nodes-wrote = wrote-as (sym nodes-as)

@@ -2,8 +2,7 @@
 -- (fewer than two for each unit square, three bytes each) and the trailer."
 use Prim.Native.Nat.{ℕ, _+_, _-_, _*_}
 use Rattle.job.specs.Block.{blockLength}
-use Rattle.nodes.specs.Encoding.{nodeLength}
-use Rattle.checker.specs.Refusals.{trailerLength}
+use Rattle.fields.specs.Format.{nodeLength, trailerLength}
 
 abbrev pub planEnough : ℕ → ℕ → ℕ → ℕ
 planEnough count x y = blockLength count + nodeLength * (2 * (x * y) - 1) + trailerLength

@@ -1,65 +1,83 @@
 -- Plan as it computes; nobody has to believe it: `plan-exactly` says that it is `Plans`.
 use Prim.Native.Nat.{ℕ, suc, _≤_, zero, _+_, _*_}
-use mathlib.Core.Bool.{Bool, cond, _&&_, true}
-use mathlib.Core.List.{List}
+use mathlib.Core.Bool.{Bool, cond, not, _&&_, true}
+use mathlib.Core.List.{List, [], _∷_}
 use mathlib.Core.Path.{_≡_}
-use lib.Dec.{ltb}
-use lib.ListN.{length}
+use lib.Dec.{leb, eqb}
+use lib.ListN.{length, take, drop}
+use Rattle.laws.specs.Inner.{numberGiven}
 use Rattle.cutting.specs.Tree.{Tree}
 use Rattle.cells.specs.Cells.{cellOf, empty}
 use Rattle.job.specs.declared.Job.{Job}
-use Rattle.job.specs.Job.{piecesOf}
-use Rattle.tracer.specs.Inner.{by, traced, traces}
-use Rattle.desk.specs.Inner.{jobRows, orElse, jobRefused, accepted}
-use Rattle.cutting.specs.Piece.{Inside, Lays}
+use Rattle.job.specs.Job.{layOf}
+use Rattle.tracer.specs.Inner.{whole, traced, traces}
+use Rattle.desk.specs.Inner.{jobRows, accepted}
+use Rattle.cutting.specs.Piece.{Inside}
 use Rattle.cells.specs.Box.{isEmpty}
 use Rattle.cells.specs.Inner.{exceeds, anyInBox}
-use Rattle.job.specs.Inner.{within}
-use Rattle.desk.specs.Refusals.{notInside, alienTable}
+use Rattle.job.specs.Inner.{within, jobInRange}
+use Rattle.desk.specs.Refusals.{cellsOf, alienTable, shortBuffer}
+use Rattle.fields.specs.Format.{trailerLength}
+use Rattle.job.specs.Block.{blockLength}
 use Rattle.laws.specs.Put.{put}
 use Rattle.checker.specs.declared.Checked.{Checked}
 use Rattle.checker.specs.Inner.{checked}
 use Rattle.cutting.specs.Dissection.{Best}
 use Rattle.plan.specs.File.{fileOf}
-use Rattle.plan.specs.Refusals.{Readable, notAsked, shortBuffer}
+use Rattle.plan.specs.Refusals.{Readable, planRefusals}
 use Rattle.plan.specs.declared.Planned.{Planned}
 use Rattle.plan.specs.declared.Planned.the-variants.{Written, Refused}
 
--- The tree with the job's pieces as rows and its points as marks, whether tree rule 6 strikes nowhere in it, and its
+-- The tree with what the board holds of the job, whether tree rule 6 strikes nowhere in it, and its
 -- file. `rules-tree` and `tree-by-rules` say that it is the tree by the rules.
 abbrev pub treeFor : Job → List ℕ → ℕ → ℕ → Tree
-treeFor job t x y = traced (jobRows job) (cellOf (job .width) t) (by x y)
+treeFor job t x y = traced (jobRows job) (cellOf (job .width) t) (whole x y)
 
 abbrev pub tracesFor : Job → List ℕ → ℕ → ℕ → Bool
-tracesFor job t x y = traces (jobRows job) (cellOf (job .width) t) (by x y)
+tracesFor job t x y = traces (jobRows job) (cellOf (job .width) t) (whole x y)
 
 abbrev pub planFile : Job → List ℕ → ℕ → ℕ → List ℕ
 planFile job t x y = fileOf job x y (treeFor job t x y)
 
--- "Numbers we refuse with", those of plan: "Checked in the order of the numbers."
-
--- The refusals before the tree: 1, 2, 3, 6 and 7.
-unfoldable pub boxRefused : Job → List ℕ → ℕ → ℕ → ℕ
-boxRefused job t x y =
-    orElse (jobRefused job t)
-    (orElse (cond (within x (job .width) && within y (job .height)) 0 notInside)
-    (orElse (cond (anyInBox x y (isEmpty (job .width) t)) notAsked 0) (cond (anyInBox x y (exceeds (job .width) t)) alienTable 0)))
-
--- Those of the tree and its file: 7, "for plan also tree rule 6", and 8.
-unfoldable pub fileRefused : Job → List ℕ → ℕ → ℕ → ℕ → ℕ
-fileRefused job t x y room = orElse (cond (tracesFor job t x y) 0 alienTable) (cond (ltb room (length (planFile job t x y))) shortBuffer 0)
+-- "Numbers we refuse with", those of plan: a test for each row, and the number that they compute.
 
 -- The buffer has room for so many bytes.
+unfoldable pub planTests : Job → List ℕ → ℕ → ℕ → ℕ → List Bool
+planTests job t x y room =
+    jobInRange job
+    ∷ leb (cellsOf job) (length t)
+    ∷ (within x (job .width) && within y (job .height))
+    ∷ not (anyInBox x y (isEmpty (job .width) t))
+    ∷ not (anyInBox x y (exceeds (job .width) t))
+    ∷ tracesFor job t x y
+    ∷ leb (length (planFile job t x y)) room
+    ∷ []
+
 unfoldable pub planRefused : Job → List ℕ → ℕ → ℕ → ℕ → ℕ
-planRefused job t x y room = orElse (boxRefused job t x y) (fileRefused job t x y room)
+planRefused job t x y room = numberGiven (planRefusals job t x y room) (planTests job t x y room)
+
+-- The rows before the tree, 1, 2, 3, 6 and 7, whatever the room ..
+abbrev pub boxRows : ℕ
+boxRows = 5
+
+unfoldable pub boxRefused : Job → List ℕ → ℕ → ℕ → ℕ
+boxRefused job t x y = numberGiven (take boxRows (planRefusals job t x y 0)) (take boxRows (planTests job t x y 0))
+
+-- .. and those of the tree and its file: 7, "for plan also tree rule 6", and 8.
+unfoldable pub fileRefused : Job → List ℕ → ℕ → ℕ → ℕ → ℕ
+fileRefused job t x y room = numberGiven (drop boxRows (planRefusals job t x y room)) (drop boxRows (planTests job t x y room))
+
+-- The same by the length of the nodes, 0 where rule 6 strikes.
+unfoldable pub fileNumber : ℕ → ℕ → ℕ → ℕ
+fileNumber count nodes room = cond (eqb nodes 0) alienTable (cond (leb (blockLength count + nodes + trailerLength) room) 0 shortBuffer)
 
 -- The answer with these numbers.
-abbrev pub answerWith : ℕ → ℕ → ℕ → Planned
-answerWith zero bytes value = Written bytes value
-answerWith (suc k) bytes value = Refused (suc k)
+abbrev pub plannedWith : ℕ → ℕ → ℕ → Planned
+plannedWith zero bytes value = Written bytes value
+plannedWith (suc k) bytes value = Refused (suc k)
 
 unfoldable pub planned : Job → List ℕ → ℕ → ℕ → ℕ → Planned
-planned job t x y room = answerWith (planRefused job t x y room) (length (planFile job t x y)) (cellOf (job .width) t x y)
+planned job t x y room = plannedWith (planRefused job t x y room) (length (planFile job t x y)) (cellOf (job .width) t x y)
 
 unfoldable pub plannedBytes : Job → List ℕ → ℕ → ℕ → List ℕ → List ℕ
 plannedBytes job t x y o = accepted (planRefused job t x y (length o)) (put o 0 (planFile job t x y)) o
@@ -88,4 +106,4 @@ pub record AcceptedAs (file : List ℕ) (x y value : ℕ) : Type 0 where
 -- Every filled cell of the sheet holds its best value.
 abbrev pub HoldsBest : Job → List ℕ → Type 0
 HoldsBest job t =
-    (u w : ℕ) → Inside u w (job .width) (job .height) → (cellOf (job .width) t u w ≡ empty → ⊥) → Best (Lays (piecesOf job)) u w (cellOf (job .width) t u w)
+    (u w : ℕ) → Inside u w (job .width) (job .height) → (cellOf (job .width) t u w ≡ empty → ⊥) → Best (layOf job) u w (cellOf (job .width) t u w)

@@ -26,6 +26,7 @@ plannedNumbers (Refused refusal) = record { refusal = refusal; length = 0; value
 -- The answer, and what the buffer o holds then.
 pub data Plans (job : Job) (t : List ℕ) (x y : ℕ) (o : List ℕ) : Planned → List ℕ → Type 0 where
   -- "writes a plan file at the start of a lent buffer. It answers length and value": the file's length, and the number in cell (x, y).
-  written : {tree : Tree} → Readable job t x y → TreeFor job t x y tree → length (fileOf job x y tree) ≤ length o → Plans job t x y o (Written (length (fileOf job x y tree)) (cellOf (job .width) t x y)) (put o 0 (fileOf job x y tree))
+  written : {tree : Tree} → Readable job t x y → TreeFor job t x y tree → length (fileOf job x y tree) ≤ length o
+      → Plans job t x y o (Written (length (fileOf job x y tree)) (cellOf (job .width) t x y)) (put o 0 (fileOf job x y tree))
   -- A refusal "changes nothing lent".
   refused : {k : ℕ} → PlanRefusal job t x y (length o) (suc k) → Plans job t x y o (Refused (suc k)) o

@@ -7,27 +7,26 @@ ghost use Rattle.laws.specs.Put.{put};
 ghost use Rattle.fields.specs.Number.{bytes4};
 ghost use Rattle.fields.specs.Sum.{sumOf};
 ghost use Rattle.cells.specs.Cells.{cellOf};
-ghost use Rattle.tracer.specs.Inner.{Wrote};
-ghost use Rattle.checker.specs.Refusals.{fileMost};
+ghost use Rattle.board.specs.Inner.{boardOf};
+ghost use Rattle.laws.specs.Inner.{Wrote};
+ghost use Rattle.fields.specs.Format.{sumField, fileMost};
 ghost use Rattle.plan.specs.Inner.{planFile, Ready};
-use crate::tree::wide;
-use crate::tree::write_for;
+use board::Board;
+use fields::cast::wide;
+use fields::format::NODES_FIELD;
+use fields::format::SUM_FIELD;
+use fields::format::VALUE_FIELD;
 use fields::put4;
 use fields::sum_of;
 use job::Job;
 use job::block::block_length;
 use job::block::put_block;
-
-// Where the fields stand in the trailer, behind D1.
-const NODES_FIELD: usize = 4;
-
-const VALUE_FIELD: usize = 8;
-
-const SUM_FIELD: usize = 12;
+use tracer::FREE;
+use tracer::walk::write;
 
 // Writes D1, D2 and the value at the trailer's start. The job block starts at 0, so that D1 is that place itself.
 fn put_pointers(o: &mut [u8], at: usize, nodes: usize, value: u32)
-    requires { ⌜ (at + 12 ≤ length (now o)) × (at ≤ fileMost) × (nodes ≤ at) ⌝ }
+    requires { ⌜ (at + sumField ≤ length (now o)) × (at ≤ fileMost) × (nodes ≤ at) ⌝ }
     ensures { λ _. ⌜ now (o .exit) ≡ put (now (o .entry)) at (bytes4 at ++ (bytes4 nodes ++ bytes4 value)) ⌝ }
 {
     put4(o, at, at as u32);
@@ -46,14 +45,22 @@ fn put_sum(o: &mut [u8], at: usize) -> usize
 }
 
 // Writes the file of x by y, whose cell holds this value, and answers its length.
-pub fn write_file(job: Job, t: &[u32], x: u32, y: u32, value: u32, o: &mut [u8]) -> usize
-    requires { ⌜ Ready job (now t) x y (now o) ⌝ }
+pub fn write_file(
+    job: Job,
+    board: &Board,
+    t: &[u32],
+    x: u32,
+    y: u32,
+    value: u32,
+    o: &mut [u8],
+) -> usize
+    requires { ⌜ Ready job (now t) x y (now o) × (now board ≡ boardOf job) ⌝ }
     requires { ⌜ value ≡ cellOf (job .width) (now t) x y ⌝ }
     ensures { λ r. ⌜ Wrote (now (o .entry)) 0 (planFile job (now (t .entry)) x y) r (now (o .exit)) ⌝ }
 {
     let nodes_at = block_length(wide(job.count));
     put_block(o, x as u16, y as u16, job);
-    let at = write_for(job, t, x as usize, y as usize, o, nodes_at);
+    let at = write(board, t, x as usize, y as usize, FREE, o, nodes_at);
     put_pointers(o, at, at - nodes_at, value);
     put_sum(o, at + SUM_FIELD)
 }

@@ -1,11 +1,16 @@
 // The call plan: the file of the tree for a rectangle, written into a lent buffer. It has no `requires`.
-// refusal.rt: the chain of refusals; tree.rt: the tree by the job's rows and marks; file.rt: the file's parts.
+// refusal.rt: the list of refusals; file.rt: the file's parts.
 ghost use Rattle.plan.specs.Inner.{PlanPromise};
+use board::Board;
+use board::PLACES;
+use board::lay_out;
+use fields::cast::wide;
 use job::Job;
+use tracer::FREE;
+use tracer::walk::measure;
 
 mod file;
 mod refusal;
-mod tree;
 
 // The answer of plan: the file's length and its value, or the refusal's number.
 pub enum Planned {
@@ -17,11 +22,18 @@ pub enum Planned {
 pub fn plan(job: Job, t: &[u32], x: u32, y: u32, o: &mut [u8]) -> Planned
     ensures { λ r. ⌜ PlanPromise job (now (t .entry)) x y (now (o .entry)) r (now (o .exit)) ⌝ }
 {
-    let refused = refusal::plan_refused(job, t, x, y, o.len());
-    if refused != 0 {
-        return Planned::Refused(refused);
+    let first = refusal::box_refused(job, t, x, y);
+    if first != 0 {
+        return Planned::Refused(first);
     }
-    let value = cells::cell(t, tree::wide(job.width), x as usize, y as usize);
-    let length = file::write_file(job, t, x, y, value, o);
+    let mut board: Board = [0; PLACES];
+    lay_out(&mut board, job);
+    let nodes = measure(&board, t, x as usize, y as usize, FREE);
+    let second = refusal::file_refused(job.count, nodes, o.len());
+    if second != 0 {
+        return Planned::Refused(second);
+    }
+    let value = cells::cell(t, wide(job.width), x as usize, y as usize);
+    let length = file::write_file(job, &board, t, x, y, value, o);
     Planned::Written(length as u32, value)
 }

@@ -3,19 +3,16 @@ ghost use mathlib.Core.Path.{_≡_};
 ghost use Prim.Native.Nat.{_+_, _≤_};
 ghost use Rattle.job.specs.Block.{blockLength};
 ghost use Rattle.tracer.specs.Inner.{lengthMost};
-ghost use Rattle.checker.specs.Refusals.{trailerLength};
-ghost use Rattle.plan.specs.Refusals.{Readable};
-ghost use Rattle.plan.specs.Inner.{boxRefused, fileRefused, planRefused};
-use crate::tree::measure_for;
-use crate::tree::wide;
-use checker::TRAILER_LENGTH;
+ghost use Rattle.fields.specs.Format.{trailerLength};
+ghost use Rattle.plan.specs.Inner.{boxRefused, fileNumber};
 use desk::refusal::EXCESS;
 use desk::refusal::PLACE;
 use desk::refusal::inside;
 use desk::refusal::job_refused;
+use fields::cast::wide;
+use fields::format::TRAILER_LENGTH;
 use job::Job;
 use job::block::block_length;
-use tracer::Measured;
 
 // A cell in the box is empty.
 pub const EMPTY_CELL: u32 = 6;
@@ -23,7 +20,7 @@ pub const EMPTY_CELL: u32 = 6;
 // The file is longer than the buffer.
 pub const LONG: u32 = 8;
 
-fn box_refused(job: Job, t: &[u32], x: u32, y: u32) -> u32
+pub fn box_refused(job: Job, t: &[u32], x: u32, y: u32) -> u32
     ensures { λ r. ⌜ r ≡ boxRefused job (now (t .entry)) x y ⌝ }
 {
     let first = job_refused(job, t);
@@ -50,26 +47,16 @@ fn file_length(count: u16, nodes: usize) -> usize
     block_length(wide(count)) + nodes + TRAILER_LENGTH
 }
 
-fn file_refused(job: Job, t: &[u32], x: usize, y: usize, room: usize) -> u32
-    requires { ⌜ Readable job (now t) x y ⌝ }
-    ensures { λ r. ⌜ r ≡ fileRefused job (now (t .entry)) x y room ⌝ }
+// Rule 6 strikes where the nodes have no length; else the file has room, or not.
+pub fn file_refused(count: u16, nodes: usize, room: usize) -> u32
+    requires { ⌜ nodes ≤ lengthMost ⌝ }
+    ensures { λ r. ⌜ r ≡ fileNumber count nodes room ⌝ }
 {
-    let nodes = measure_for(job, t, x, y);
-    let Measured::Length(bytes) = nodes else {
+    if nodes == 0 {
         return EXCESS;
-    };
-    if room < file_length(job.count, bytes) {
+    }
+    if room < file_length(count, nodes) {
         return LONG;
     }
     0
-}
-
-pub fn plan_refused(job: Job, t: &[u32], x: u32, y: u32, room: usize) -> u32
-    ensures { λ r. ⌜ r ≡ planRefused job (now (t .entry)) x y room ⌝ }
-{
-    let first = box_refused(job, t, x, y);
-    if first != 0 {
-        return first;
-    }
-    file_refused(job, t, x as usize, y as usize, room)
 }

@@ -1,5 +1,5 @@
 -- Decimal numbers by their own equations.
-use Prim.Native.Nat.{ℕ, zero, suc, _+_, _/_, _%_, _^_, _≤_, _<_}
+use Prim.Native.Nat.{ℕ, zero, suc, _/_, _%_, _^_, _≤_, _<_}
 use mathlib.Core.Bool.{Bool, cond}
 use mathlib.Core.Path.{_≡_, sym, ap, _∙_}
 use mathlib.Core.Logic.{⊎-elim}
@@ -28,7 +28,9 @@ enough : (k j n : ℕ) → n < k → n < j → decimalWithin k n ≡ decimalWith
 enough zero j n h g = absurd (omega arith)
 enough (suc k) zero n h g = absurd (omega arith)
 enough (suc k) (suc j) n h g =
-    ⊎-elim (λ m. within-more k n m ∙ (ap (λ (l : List ℕ). l ++ (digit (n % 10) ∷ [])) (enough k j (n / 10) (omega arith) (omega arith)) ∙ sym (within-more j n m)))
+    ⊎-elim (λ m.
+    let tenth = ap (λ (l : List ℕ). l ++ (digit (n % 10) ∷ [])) (enough k j (n / 10) (omega arith) (omega arith)) in
+    within-more k n m ∙ (tenth ∙ sym (within-more j n m)))
     (λ m. within-one k n m ∙ sym (within-one j n m))
     (le-or-lt 10 n)
 
@@ -56,6 +58,7 @@ decimal-length (suc k) n h =
 pub printed-digit : {o p : List ℕ} {at n : ℕ} {d : ℕ} (k : ℕ) → k < 10 → d ≡ digit k → Printed o at (d ∷ []) n p → Printed o at (decimal k) n p
 printed-digit k h e w = printed-as (ap (λ (d : ℕ). d ∷ []) e ∙ sym (decimal-one k h)) w
 
-pub printed-digits : {o p q : List ℕ} {at m n : ℕ} {d : ℕ} (k : ℕ) → 10 ≤ k → d ≡ digit (k % 10) → Printed o at (decimal (k / 10)) m p → Printed p m (d ∷ []) n q → Printed o at (decimal k) n q
+pub printed-digits : {o p q : List ℕ} {at m n : ℕ} {d : ℕ} (k : ℕ) → 10 ≤ k → d ≡ digit (k % 10) → Printed o at (decimal (k / 10)) m p
+    → Printed p m (d ∷ []) n q → Printed o at (decimal k) n q
 printed-digits {d = d} k h e v w =
     printed-as (ap (λ (d : ℕ). decimal (k / 10) ++ (d ∷ [])) e ∙ sym (decimal-more k h)) (printed-both (decimal (k / 10)) (d ∷ []) v w)

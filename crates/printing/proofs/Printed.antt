@@ -75,7 +75,8 @@ printed-both {o} {p} {q} {at} {m} {n} e f v w = record { place = place; bytes = 
         ⊎-elim (λ (h : at ≤ length o). put-put o at (fitting o at e) (fitting p m f) (omega (arith, fits-length o at e)))
         (λ (h : length o < at).
         let g : fitting p m f ≡ [] = fits-none p m f (omega (arith, v .place, printed-length v)) in
-        ap (λ (l : List ℕ). put (put o at (fitting o at e)) (at + length (fitting o at e)) l) g ∙ (put-none _ _ ∙ ap (put o at) (sym (append-empty (fitting o at e)) ∙ ap (λ (l : List ℕ). fitting o at e ++ l) (sym g))))
+        ap (put (put o at (fitting o at e)) (at + length (fitting o at e))) g
+        ∙ (put-none _ _ ∙ ap (put o at) (sym (append-empty (fitting o at e)) ∙ ap (λ (l : List ℕ). fitting o at e ++ l) (sym g))))
         (le-or-lt at (length o))
       where
         append-empty : (l : List ℕ) → l ++ [] ≡ l
@@ -111,7 +112,8 @@ printed-none {o} {at} e h =
     record { place = omega (arith, ap length none); bytes = sym (ap (put o at) none ∙ put-none o at) }
 
 -- A word, byte by byte.
-pub printed-more : {o p q : List ℕ} {at m n : ℕ} (word : List ℕ) (i : ℕ) → i < length word → Printed o at (take i word) m p → Printed p m (getD word i 0 ∷ []) n q → Printed o at (take (i + 1) word) n q
+pub printed-more : {o p q : List ℕ} {at m n : ℕ} (word : List ℕ) (i : ℕ) → i < length word → Printed o at (take i word) m p
+    → Printed p m (getD word i 0 ∷ []) n q → Printed o at (take (i + 1) word) n q
 printed-more word i h v w = printed-as (rw add-one (sym (take-suc word i 0 h))) (printed-both (take i word) (getD word i 0 ∷ []) v w)
 
 pub printed-whole : {o p : List ℕ} {at n : ℕ} (word : List ℕ) (i : ℕ) → length word ≤ i → Printed o at (take i word) n p → Printed o at word n p

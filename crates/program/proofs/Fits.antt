@@ -37,7 +37,8 @@ or-fits zero text h f = f refl
 or-fits (suc k) text h f = omega (arith, refused-length (suc k) h)
 
 -- An accepted plan has at most 10,915 nodes, three bytes each, before a trailer and after a block of 6 bytes or more.
-plan-fits : (job : Job) (t : List ℕ) (worked : ℕ) → worked ≤ job .width * job .height → planRefused job t (job .width) (job .height) planRoom ≡ 0 → length (planText job t (cellOf (job .width) t (job .width) (job .height)) worked) ≤ textMost
+plan-fits : (job : Job) (t : List ℕ) (worked : ℕ) → worked ≤ job .width * job .height → planRefused job t (job .width) (job .height) planRoom ≡ 0
+    → length (planText job t (cellOf (job .width) t (job .width) (job .height)) worked) ≤ textMost
 unfolding planText treeLines
 plan-fits job t worked w e =
     let a = job .width in
@@ -47,20 +48,26 @@ plan-fits job t worked w e =
     let inside = ready .readable .inside in
     let tree = treeFor job t a b in
     let dissects = tree-dissects job t a b (ready .readable) (tree-by-rules job t a b (ready .readable) (ready .traces)) in
-    let few-nodes : nodes tree ≤ 10_915 = omega (arith, ready .room, length-replicate {A = ℕ} planRoom 0, file-length (sheetOf job a b) tree, encode-length tree) in
-    let value : cellOf a t a b < 10_000_000_000 = omega (arith, ready .readable .bounded a b inside (ready .readable .full a b inside), most-mono a b sideMax sideMax (range .widthMost) (range .heightMost)) in
+    let few-nodes : nodes tree ≤ 10_915 =
+    omega (arith, ready .room, length-replicate {A = ℕ} planRoom 0, file-length (sheetOf job a b) tree, encode-length tree) in
+    let most = most-mono a b sideMax sideMax (range .widthMost) (range .heightMost) in
+    let value : cellOf a t a b < 10_000_000_000 = omega (arith, ready .readable .bounded a b inside (ready .readable .full a b inside), most) in
     let few : length (piecesOf job) < 1_000 = omega (arith, pieces-length job, range .countMost) in
-    simp length-append
-    (omega (arith, head-length (cellOf a t a b) worked value (omega (arith, mul-le-mul (range .widthMost) (range .heightMost))), listing-length (range .pieces) few 1 a b (omega arith) (range .widthMost) (range .heightMost) (dissects .valid)))
+    let head = head-length (cellOf a t a b) worked value (omega (arith, mul-le-mul (range .widthMost) (range .heightMost))) in
+    let lines = listing-length (range .pieces) few 1 a b (omega arith) (range .widthMost) (range .heightMost) (dissects .valid) in
+    simp length-append (omega (arith, head, lines))
 
-planned-fits : (job : Job) (t : List ℕ) (worked : ℕ) → worked ≤ job .width * job .height → length (plannedText job t (cellOf (job .width) t (job .width) (job .height)) worked) ≤ textMost
+planned-fits : (job : Job) (t : List ℕ) (worked : ℕ) → worked ≤ job .width * job .height
+    → length (plannedText job t (cellOf (job .width) t (job .width) (job .height)) worked) ≤ textMost
 unfolding plannedText
 planned-fits job t worked w = or-fits _ _ (plan-digit job t (job .width) (job .height) planRoom) (plan-fits job t worked w)
 
 asked-fits : (job : Job) (t : List ℕ) → length (askedText job t) ≤ textMost
 unfolding askedText
 asked-fits job t =
-    or-fits _ _ (ask-digit job t (job .width) (job .height)) (λ _. planned-fits job (filledFor job t (job .width) (job .height)) _ (countInBox-bound (job .width) (job .height) (isEmpty (job .width) t)))
+    let a = job .width in
+    let b = job .height in
+    or-fits _ _ (ask-digit job t a b) (λ _. planned-fits job (filledFor job t a b) _ (countInBox-bound a b (isEmpty a t)))
 
 job-fits : (from : Job) → length (jobText from) ≤ textMost
 unfolding jobText enteredText

@@ -22,7 +22,9 @@ use Rattle.program.specs.Program.{jobText, programText}
 long-refused : (s : List ℕ) → inputMost ≤ length s → programText s ≡ refusedText badJob
 unfolding programText fromBlock
 long-refused s h =
-    ap (λ (b : Bool). let r : Blocked = cond b (record { ok = true; job = jobIn s }) (record { ok = false; job = zeroJob }) in cond (r .ok) (jobText (r .job)) (refusedText badJob))
+    ap (λ (b : Bool).
+    let r : Blocked = cond b (record { ok = true; job = jobIn s }) (record { ok = false; job = zeroJob }) in
+    cond (r .ok) (jobText (r .job)) (refusedText badJob))
     (says-no (shape-says s) (λ k. omega (arith, k .most, k .whole)))
 
 pub input-enough : (input : List ℕ) → programText (take inputMost input) ≡ programText input

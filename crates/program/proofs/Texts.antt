@@ -1,10 +1,11 @@
 -- What is printed for each answer, as the code goes.
-use Prim.Native.Nat.{ℕ, zero, suc, _≤_}
+use Prim.Native.Nat.{ℕ, zero, suc, _+_, _≤_}
 use mathlib.Core.Bool.{Bool, true, false, cond, not}
 use mathlib.Core.Path.{_≡_, refl, sym, ap, _∙_}
 use mathlib.Core.List.{List}
 use native.Mathlib.Omega.{arith}
-use lib.ListN.{length, replicate, length-replicate}
+use lib.ListN.{length, drop, replicate, length-replicate}
+use Rattle.laws.specs.Put.{put}
 use Rattle.laws.proofs.Tests.{not-true, not-false}
 use Rattle.laws.proofs.ByIndex.{byIndex-length}
 use Rattle.cutting.specs.Limits.{piecesMax}
@@ -15,19 +16,21 @@ use Rattle.job.specs.declared.Blocked.{Blocked}
 use Rattle.job.specs.Job.{jobOf, zeroJob}
 use Rattle.job.specs.Block.{BlockShape, jobIn, countIn, pieceIn}
 use Rattle.job.specs.Inner.{blockShape, fromBlock}
+use Rattle.job.specs.Range.{JobInRange}
 use Rattle.job.proofs.Blocks.{shape-says}
 use Rattle.desk.specs.declared.Changed.{Changed}
 use Rattle.desk.specs.declared.Asked.{Asked}
 use Rattle.desk.specs.declared.Asked.the-variants.{Answered, Refused}
-use Rattle.desk.specs.Inner.{accepted, askRefused, asked, askedCells, filledFor, answerWith}
+use Rattle.desk.specs.Inner.{accepted, askRefused, asked, askedCells, filledFor, askedWith}
 use Rattle.plan.specs.declared.Planned.{Planned}
 use Rattle.plan.specs.declared.Planned.the-variants.{Written, Refused as NoPlan}
-use Rattle.plan.specs.Inner.{tracesFor, planFile, planRefused, planned, answerWith as planWith, Ready}
-use Rattle.plan.specs.Refusals.{Readable}
+use Rattle.plan.specs.Inner.{treeFor, planFile, planRefused, planned, plannedBytes, plannedWith as planWith, Ready}
+use Rattle.plan.proofs.Tracing.{tree-by-rules, tree-earns}
 use Rattle.plan.proofs.Exactly.{plan-granted}
 use Rattle.listing.specs.Line.{refusedText}
 use Rattle.program.specs.Entry.{entered}
 use Rattle.program.specs.Sizes.{planRoom}
+use Rattle.program.specs.Inner.{HoldsPlan}
 use Rattle.program.specs.Program.{textOr, planText, plannedText, askedText, enteredText, newTable, jobText, programText}
 
 -- A refusal, or the text.
@@ -54,33 +57,65 @@ plan-yes : (n length value : ℕ) {l v : ℕ} → planWith n length value ≡ Wr
 plan-yes zero length value e = refl
 plan-yes (suc j) length value e = let z : _≡_ {A = ℕ} 0 1 = cc in absurd (omega arith)
 
-module _ (job : Job) (t : List ℕ) {x y room : ℕ} {r : Planned} (f : x ≡ job .width) (g : y ≡ job .height) (e : r ≡ planned job t x y room) (m : room ≡ planRoom) where
+module _ (job : Job) (t : List ℕ) {x y room : ℕ} {r : Planned} (f : x ≡ job .width) (g : y ≡ job .height) (e : r ≡ planned job t x y room)
+    (m : room ≡ planRoom) where
   whole-plan : r ≡ planned job t (job .width) (job .height) planRoom
   whole-plan = e ∙ (λ i. planned job t (f i) (g i) (m i))
 
   pub plan-refused-text : {k n : ℕ} (value worked : ℕ) → r ≡ NoPlan k → n ≡ k → refusedText n ≡ plannedText job t value worked
   unfolding planned plannedText
   plan-refused-text value worked h i =
-      ap refusedText i ∙ plan-no (planRefused job t (job .width) (job .height) planRoom) (length (planFile job t (job .width) (job .height))) (cellOf (job .width) t (job .width) (job .height)) _ (planText job t value worked) (sym whole-plan ∙ h)
+      let a = job .width in
+      let b = job .height in
+      ap refusedText i
+      ∙ plan-no (planRefused job t a b planRoom) (length (planFile job t a b)) (cellOf a t a b) _ (planText job t value worked) (sym whole-plan ∙ h)
 
   granted : {l v : ℕ} → r ≡ Written l v → 0 ≡ planRefused job t (job .width) (job .height) planRoom
   unfolding planned
-  granted h = plan-yes (planRefused job t (job .width) (job .height) planRoom) (length (planFile job t (job .width) (job .height))) (cellOf (job .width) t (job .width) (job .height)) (sym whole-plan ∙ h)
+  granted h =
+      let a = job .width in
+      let b = job .height in
+      plan-yes (planRefused job t a b planRoom) (length (planFile job t a b)) (cellOf a t a b) (sym whole-plan ∙ h)
 
-  pub plan-written : {l v : ℕ} → r ≡ Written l v → Readable job t (job .width) (job .height) × (tracesFor job t (job .width) (job .height) ≡ true)
-  plan-written h = let k = plan-with job t (job .width) (job .height) planRoom (sym (granted h)) in (k .readable, k .traces)
+  ready : {l v : ℕ} → r ≡ Written l v → Ready job t (job .width) (job .height) (replicate planRoom 0)
+  ready h = plan-with job t (job .width) (job .height) planRoom (sym (granted h))
+
+  pub plan-range : {l v : ℕ} → r ≡ Written l v → JobInRange job
+  plan-range h = ready h .readable .usable .range
+
+  -- What stands in the buffer then.
+  written-bytes : {l v : ℕ} (o : List ℕ) {p : List ℕ} → r ≡ Written l v → length o ≡ room → p ≡ plannedBytes job t x y o
+      → p ≡ put o 0 (planFile job t (job .width) (job .height))
+  unfolding plannedBytes accepted
+  written-bytes o h k b =
+      let none = ap (planRefused job t (job .width) (job .height)) (k ∙ m) ∙ sym (granted h) in
+      b ∙ ((λ i. plannedBytes job t (f i) (g i) o) ∙ ap (λ (n : ℕ). accepted n (put o 0 (planFile job t (job .width) (job .height))) o) none)
+
+  pub plan-held : {l v : ℕ} (o : List ℕ) {p : List ℕ} → r ≡ Written l v → length o ≡ room → p ≡ plannedBytes job t x y o
+      → HoldsPlan job p (treeFor job t (job .width) (job .height))
+  unfolding put
+  plan-held o h k b =
+      let a = job .width in
+      let c = job .height in
+      let granted = ready h in
+      record {
+        behind = drop (0 + length (planFile job t a c)) o;
+        valid = tree-earns job t a c (granted .readable) (tree-by-rules job t a c (granted .readable) (granted .traces)) .0;
+        bytes = written-bytes o h k b;
+      }
 
   pub plan-written-text : {l v : ℕ} (value worked : ℕ) → r ≡ Written l v → planText job t value worked ≡ plannedText job t value worked
   unfolding plannedText
   plan-written-text value worked h = or-text (planText job t value worked) (sym (granted h))
 
 -- The answers of ask.
-ask-no : (n value worked k : ℕ) (text : List ℕ) → answerWith n value worked ≡ Refused k → refusedText k ≡ textOr n text
+ask-no : (n value worked k : ℕ) (text : List ℕ) → askedWith n value worked ≡ Refused k → refusedText k ≡ textOr n text
 unfolding textOr
 ask-no zero value worked k text e = let z : _≡_ {A = ℕ} 0 1 = cc in absurd (omega arith)
 ask-no (suc j) value worked k text e = let z : k ≡ suc j = cc in ap refusedText z
 
-ask-yes : (n value worked : ℕ) (job : Job) {v w : ℕ} (filled t : List ℕ) {after : List ℕ} → answerWith n value worked ≡ Answered v w → after ≡ accepted n filled t → plannedText job after v w ≡ textOr n (plannedText job filled value worked)
+ask-yes : (n value worked : ℕ) (job : Job) {v w : ℕ} (filled t : List ℕ) {after : List ℕ} → askedWith n value worked ≡ Answered v w
+    → after ≡ accepted n filled t → plannedText job after v w ≡ textOr n (plannedText job filled value worked)
 unfolding textOr accepted
 ask-yes zero value worked job {v} {w} filled t e f =
     let g : v ≡ value = cc in
@@ -89,17 +124,28 @@ ask-yes zero value worked job {v} {w} filled t e f =
 ask-yes (suc j) value worked job filled t e f = let z : _≡_ {A = ℕ} 0 1 = cc in absurd (omega arith)
 
 module _ (job : Job) (t : List ℕ) {x y : ℕ} {r : Asked} (f : x ≡ job .width) (g : y ≡ job .height) (e : r ≡ asked job t x y) where
+  abbrev number : ℕ
+  number = askRefused job t (job .width) (job .height)
+
+  abbrev table : List ℕ
+  table = filledFor job t (job .width) (job .height)
+
+  abbrev value : ℕ
+  value = cellOf (job .width) table (job .width) (job .height)
+
+  abbrev worked : ℕ
+  worked = countInBox (job .width) (job .height) (isEmpty (job .width) t)
+
   whole-ask : r ≡ asked job t (job .width) (job .height)
   whole-ask = e ∙ (λ i. asked job t (f i) (g i))
 
   pub ask-refused-text : {k n : ℕ} → r ≡ Refused k → n ≡ k → refusedText n ≡ askedText job t
   unfolding asked askedText
-  ask-refused-text h i = ap refusedText i ∙ ask-no (askRefused job t (job .width) (job .height)) (cellOf (job .width) (filledFor job t (job .width) (job .height)) (job .width) (job .height)) (countInBox (job .width) (job .height) (isEmpty (job .width) t)) _ _ (sym whole-ask ∙ h)
+  ask-refused-text h i = ap refusedText i ∙ ask-no number value worked _ _ (sym whole-ask ∙ h)
 
   pub ask-answered-text : {v w : ℕ} {after : List ℕ} → r ≡ Answered v w → after ≡ askedCells job t x y → plannedText job after v w ≡ askedText job t
   unfolding asked askedText askedCells
-  ask-answered-text h k =
-      ask-yes (askRefused job t (job .width) (job .height)) (cellOf (job .width) (filledFor job t (job .width) (job .height)) (job .width) (job .height)) (countInBox (job .width) (job .height) (isEmpty (job .width) t)) job (filledFor job t (job .width) (job .height)) t (sym whole-ask ∙ h) (k ∙ (λ i. askedCells job t (f i) (g i)))
+  ask-answered-text h k = ask-yes number value worked job table t (sym whole-ask ∙ h) (k ∙ (λ i. askedCells job t (f i) (g i)))
 
 -- The job as it was entered.
 module _ (answer : Changed) (t : List ℕ) where
@@ -116,7 +162,8 @@ pub few-pieces : (s : List ℕ) → fromBlock s .job .count ≤ piecesMax
 unfolding fromBlock jobIn jobOf zeroJob
 few-pieces s = go (blockShape s) (shape-says s .means)
   where
-    go : (b : Bool) → (b ≡ true → BlockShape s) → (cond {A = Blocked} b (record { ok = true; job = jobIn s }) (record { ok = false; job = zeroJob })) .job .count ≤ piecesMax
+    go : (b : Bool) → (b ≡ true → BlockShape s)
+        → (cond {A = Blocked} b (record { ok = true; job = jobIn s }) (record { ok = false; job = zeroJob })) .job .count ≤ piecesMax
     go true h = omega (arith, h refl .most, byIndex-length (pieceIn s) (countIn s))
     go false h = omega arith
 
@@ -137,7 +184,8 @@ module _ (s : List ℕ) {blocked : Blocked} (e : blocked ≡ fromBlock s) where
   unfolding programText
   block-refused-text h i = ap refusedText i ∙ (choice-no (not-true h) ∙ ap choice e)
 
-  pub block-text : {answer : Changed} {t cells : List ℕ} → not (blocked .ok) ≡ false → answer ≡ entered (blocked .job) t .answer → cells ≡ entered (blocked .job) t .cells → t ≡ newTable → enteredText answer cells ≡ programText s
+  pub block-text : {answer : Changed} {t cells : List ℕ} → not (blocked .ok) ≡ false → answer ≡ entered (blocked .job) t .answer
+      → cells ≡ entered (blocked .job) t .cells → t ≡ newTable → enteredText answer cells ≡ programText s
   unfolding programText jobText
   block-text h f g z =
       let answer = f ∙ (λ i. entered (blocked .job) (z i) .answer) in

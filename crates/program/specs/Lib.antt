@@ -3,3 +3,4 @@ pub mod Sizes
 pub mod Entry
 pub mod Program
 pub mod Promise
+pub mod Inner

@@ -5,20 +5,9 @@ ghost use Rattle.cutting.specs.Limits.{piecesMax};
 ghost use Rattle.program.specs.Entry.{addedTo, addedToCells, addedAll, entered};
 use desk::Changed;
 use desk::change;
+use fields::cast::long;
 use job::Job;
 use job::Piece;
-
-pub fn widened(n: u32) -> usize
-    ensures { λ r. ⌜ r ≡ n ⌝ }
-{
-    n as usize
-}
-
-pub fn cast(n: u16) -> u32
-    ensures { λ r. ⌜ r ≡ n ⌝ }
-{
-    n as u32
-}
 
 // Adds a piece, unless something was refused before.
 fn add_next(before: Changed, cells: &mut [u32], piece: Piece) -> Changed
@@ -53,6 +42,6 @@ pub fn enter(from: Job, cells: &mut [u32]) -> Changed
 {
     let pieces = from.pieces;
     let count = from.count as usize;
-    let start = change::open(cast(from.width), cast(from.height), cells);
+    let start = change::open(long(from.width), long(from.height), cells);
     add_all(start, pieces, count, cells)
 }

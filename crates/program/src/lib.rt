@@ -2,6 +2,7 @@
 // entry.rt: the block's pieces, added one by one; whole.rt: the stock asked, planned and printed.
 ghost use Rattle.program.specs.Promise.{ProgramPromise};
 use desk::refusal;
+use fields::cast::widened;
 use job::block::from_block;
 use listing::line::put_refused;
 
@@ -22,7 +23,7 @@ pub fn run(block: &[u8], text: &mut [u8; TEXT]) -> usize
 {
     let blocked = from_block(block);
     if !blocked.ok {
-        return put_refused(text, 0, entry::widened(refusal::JOB));
+        return put_refused(text, 0, widened(refusal::JOB));
     }
     let from = blocked.job;
     let mut cells = [0; CELLS];

@@ -1,70 +1,50 @@
 // The whole stock: asked, planned and printed.
-ghost use mathlib.Core.Path.{_≡_};
-ghost use mathlib.Core.Bool.{true};
-ghost use Rattle.plan.specs.Refusals.{Readable};
-ghost use Rattle.plan.specs.Inner.{tracesFor};
+ghost use Rattle.job.specs.Range.{JobInRange};
 ghost use Rattle.printing.specs.Inner.{Printed};
-ghost use Rattle.program.specs.Program.{treeLines, planText, plannedText, askedText, enteredText};
+ghost use Rattle.program.specs.Inner.{ListsPlan, PrintsPlan};
+ghost use Rattle.program.specs.Program.{plannedText, askedText, enteredText};
 use crate::PLAN;
-use crate::entry::cast;
-use crate::entry::widened;
+use board::Board;
+use board::PLACES;
+use board::set_pieces;
 use desk::Asked;
 use desk::Changed;
 use desk::question;
+use fields::cast::long;
+use fields::cast::wide;
+use fields::cast::widened;
 use job::Job;
-use job::Measure;
+use job::block::block_length;
+use listing::Section;
 use listing::line::put_head;
 use listing::line::put_refused;
-use listing::tree::list;
+use listing::part::list;
 use plan::Planned;
-use tracer::Sides;
 
-fn wide(n: u16) -> usize
-    ensures { λ r. ⌜ r ≡ n ⌝ }
+// The lines of the stock's tree, read off the nodes of its plan file.
+fn list_for(job: Job, file: &[u8], text: &mut [u8], at: usize) -> usize
+    requires { ⌜ JobInRange job ⌝ }
+    ensures { λ r. ⌜ ListsPlan job (now (file .entry)) (now (text .entry)) at r (now (text .exit)) ⌝ }
 {
-    n as usize
-}
-
-// The lines of the stock's tree, with the job's pieces as rows and its points as marks.
-fn list_for(job: Job, cells: &[u32], text: &mut [u8], at: usize) -> usize
-    requires { ⌜ Readable job (now cells) (job .width) (job .height) × (tracesFor job (now cells) (job .width) (job .height) ≡ true) ⌝ }
-    ensures { λ r. ⌜ Printed (now (text .entry)) at (treeLines job (now (cells .entry))) r (now (text .exit)) ⌝ }
-{
-    let a = wide(job.width);
-    let b = wide(job.height);
-    let n = wide(job.count);
-    let widths = job.row(Measure::Width);
-    let heights = job.row(Measure::Height);
-    let values = job.row(Measure::Value);
-    let across = points::marks(&widths, n, a);
-    let up = points::marks(&heights, n, b);
-    let sides = Sides {
-        width: a,
-        height: b,
+    let mut board: Board = [0; PLACES];
+    set_pieces(&mut board, job);
+    let section = Section {
+        at: block_length(wide(job.count)),
+        level: 1,
+        width: wide(job.width),
+        height: wide(job.height),
     };
-    list(
-        &widths,
-        &heights,
-        &values,
-        &across,
-        &up,
-        n,
-        cells,
-        a,
-        sides,
-        1,
-        text,
-        at,
-    )
+    let ends = list(&board, file, section, text, at);
+    ends.text
 }
 
 // The first line, and the lines of the tree.
-fn print_plan(job: Job, cells: &[u32], text: &mut [u8], value: u32, worked: u32) -> usize
-    requires { ⌜ Readable job (now cells) (job .width) (job .height) × (tracesFor job (now cells) (job .width) (job .height) ≡ true) ⌝ }
-    ensures { λ r. ⌜ Printed (now (text .entry)) 0 (planText job (now (cells .entry)) value worked) r (now (text .exit)) ⌝ }
+fn print_plan(job: Job, file: &[u8], text: &mut [u8], value: u32, worked: u32) -> usize
+    requires { ⌜ JobInRange job ⌝ }
+    ensures { λ r. ⌜ PrintsPlan job (now (file .entry)) value worked (now (text .entry)) r (now (text .exit)) ⌝ }
 {
     let next = put_head(text, 0, widened(value), widened(worked));
-    list_for(job, cells, text, next)
+    list_for(job, file, text, next)
 }
 
 // Plans the stock of a job that was asked with this answer.
@@ -72,10 +52,10 @@ fn print_asked(job: Job, cells: &[u32], text: &mut [u8], value: u32, worked: u32
     ensures { λ r. ⌜ Printed (now (text .entry)) 0 (plannedText job (now (cells .entry)) value worked) r (now (text .exit)) ⌝ }
 {
     let mut file = [0; PLAN];
-    let answer = plan::plan(job, cells, cast(job.width), cast(job.height), &mut file);
+    let answer = plan::plan(job, cells, long(job.width), long(job.height), &mut file);
     match answer {
         Planned::Refused(number) => put_refused(text, 0, widened(number)),
-        Planned::Written(_, _) => print_plan(job, cells, text, value, worked),
+        Planned::Written(_, _) => print_plan(job, &file, text, value, worked),
     }
 }
 
@@ -83,7 +63,7 @@ fn print_asked(job: Job, cells: &[u32], text: &mut [u8], value: u32, worked: u32
 fn print_job(job: Job, cells: &mut [u32], text: &mut [u8]) -> usize
     ensures { λ r. ⌜ Printed (now (text .entry)) 0 (askedText job (now (cells .entry))) r (now (text .exit)) ⌝ }
 {
-    let answer = question::ask(job, cells, cast(job.width), cast(job.height));
+    let answer = question::ask(job, cells, long(job.width), long(job.height));
     match answer {
         Asked::Refused(number) => put_refused(text, 0, widened(number)),
         Asked::Answered(value, worked) => print_asked(job, cells, text, value, worked),

@@ -1,15 +1,14 @@
--- The laws of the tree rules and of the tree.
-pub mod Rules
+-- The laws of the tracing, a file for each.
 pub mod Least
-pub mod Chosen
-pub mod Order
-pub mod Depth
 pub mod Traced
-pub mod Steps
-pub mod Wrote
-pub mod Nodes
+pub mod Strikes
 pub mod Valid
-pub mod Best
-pub mod Rows
 pub mod ByRules
+pub mod Best
 pub mod Same
+pub mod Parts
+pub mod Tests
+pub mod Steps
+pub mod Lengths
+pub mod Wrote
+pub mod Walked

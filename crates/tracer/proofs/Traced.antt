@@ -1,196 +1,244 @@
--- The tree by the rules: its equation, the length of its nodes, and that it is short.
-use Prim.Native.Nat.{ℕ, _+_, _-_, _*_, _≤_}
+-- The tree of a part: its equation by the next step, the length of its nodes, and that it is short.
+use Prim.Native.Nat.{ℕ, zero, suc, _+_, _-_, _*_, _/_, _≤_, _<_}
 use mathlib.Core.Bool.{Bool, true, false, cond, _&&_}
 use mathlib.Core.Path.{_≡_, refl, sym, ap, ap₂, _∙_, subst}
 use mathlib.Core.List.{_++_}
+use mathlib.Core.Logic.{inl, inr}
 use native.Mathlib.Omega.{arith}
-use native.Mathlib.Nat.{mul-le-mul, add-mul, mul-comm}
-use lib.Dec.{ltb}
+use native.Mathlib.Nat.{mul-le-mul}
 use lib.ListN.{length}
-use Rattle.cutting.specs.Tree.{Tree}
+use Rattle.laws.specs.Inner.{deep}
+use Rattle.laws.proofs.Says.{says-and, says-eq, says-le, says-lt}
+use Rattle.laws.proofs.First.{number-most}
+use Rattle.laws.proofs.Choice.{either-way}
+use Rattle.laws.proofs.Depth.{by-size, deep-own}
 use Rattle.cutting.specs.Limits.{sideMax}
-use Rattle.points.specs.Inner.{Rows}
-use Rattle.nodes.specs.Encoding.{letterP, letterS, nodeLength, node, encode}
-use Rattle.nodes.proofs.Encoding.{node-length, line-length}
-use Rattle.tracer.specs.Inner.{sideOf, near, far, choose, AddsAt, lineOf, trimTo, leaf, trimmed, treeBy, tracesBy, tracedWithin, tracesWithin, traced, traces, nodesOf, measured, letterOf, trimLength, together, Short}
-use Rattle.tracer.specs.declared.Sides.{Sides}
-use Rattle.tracer.specs.declared.Cut.{Cut}
-use Rattle.tracer.specs.declared.Choice.{Choice}
-use Rattle.tracer.specs.declared.Measured.{Measured}
-use Rattle.tracer.proofs.Rules.{Within}
-use Rattle.tracer.proofs.Chosen.{Fact, fact}
-use Rattle.tracer.proofs.Depth.{Real, Part, near-part, far-part, own, by-parts}
+use Rattle.cutting.specs.Dissection.{rest, crossed, Line}
+use Rattle.cutting.specs.Tree.{Tree}
+use Rattle.cutting.proofs.Tree.{parts-area, least, line-far, part-less}
+use Rattle.fields.specs.Format.{letterP, letterS, nodeLength}
+use Rattle.board.specs.Inner.{Rows}
+use Rattle.nodes.specs.Encoding.{letterOf, encode}
+use Rattle.nodes.proofs.Encoding.{node-length, line-length, encode-least}
+use Rattle.tracer.specs.declared.Step.{Step}
+use Rattle.tracer.specs.Inner.{free, waste, WantedPart, nearWanted, farWanted, suits, firstPiece, addsTo, leastLine, trimmedTo, cutOut, strikes, ruled, stepIn, treeBy, tracesBy, sidesOf, traced, traces, measured, nodeOf, leafLength, together, lengthMost, Wanted}
 
--- The encoding of a line and of a leaf, and their lengths.
-pub encode-line : (tall : Bool) (c : ℕ) (s t : Tree) → encode (lineOf tall c s t) ≡ node (letterOf tall) c ++ (encode s ++ encode t)
-unfolding encode lineOf letterOf
-encode-line true c s t = refl
-encode-line false c s t = refl
+-- What a step says of its part: a line lies inside the side that it crosses, and what is wanted of its near part is as `Good` says.
+pub record LineStep (Good : ℕ → Type 0) (p : WantedPart) (tall : Bool) (c wanted : ℕ) : Type 0 where
+  pub inside : Line (crossed tall (p .width) (p .height)) c (rest (crossed tall (p .width) (p .height)) c)
+  pub near : Good wanted
 
-pub encode-leaf : (k : ℕ) → encode (leaf k) ≡ node letterP (k + 1)
-unfolding encode
-encode-leaf k = refl
+abbrev Steps : (ℕ → Type 0) → WantedPart → Step → Type 0
+Steps Good p Step.Scrap = Unit {0}
+Steps Good p (Step.Piece k) = Unit {0}
+Steps Good p (Step.Line tall c wanted) = LineStep Good p tall c wanted
+Steps Good p Step.Struck = Unit {0}
 
-pub encode-scrap : encode Tree.scrapS ≡ node letterS 0
-unfolding encode
-encode-scrap = refl
+module _ (rows : Rows) (cell : ℕ → ℕ → ℕ) (p : WantedPart) (Good : ℕ → Type 0) (pieces : (k : ℕ) → k ≤ rows .count → Good k) where
+  abbrev x : ℕ
+  x = p .width
 
-pub length-line : (tall : Bool) (c : ℕ) (s t : Tree) → length (encode (lineOf tall c s t)) ≡ nodeLength + length (encode s) + length (encode t)
-length-line tall c s t = ap length (encode-line tall c s t) ∙ line-length (letterOf tall) c s t
+  abbrev y : ℕ
+  y = p .height
 
-pub length-leaf : (k : ℕ) → length (encode (leaf k)) ≡ nodeLength
-length-leaf k = ap length (encode-leaf k) ∙ node-length letterP (k + 1)
+  trimmed-steps : (tall : Bool) (size k : ℕ) (after : Step) → Good k → Steps Good p after → Steps Good p (trimmedTo tall size (crossed tall x y) k after)
+  unfolding trimmedTo
+  trimmed-steps tall size k after g s =
+      either-way (Steps Good p) (says-and (says-le 1 size) (says-lt size (crossed tall x y))) _ _
+      (λ l. record { inside = record { least = l .0; most = omega (arith, l .1); leaves = refl }; near = g })
+      (λ _. s)
 
-pub length-scrap : length (encode Tree.scrapS) ≡ nodeLength
-length-scrap = ap length encode-scrap ∙ node-length letterS 0
+  cut-steps : (k : ℕ) → Good k → Steps Good p (cutOut rows x y k)
+  unfolding cutOut
+  cut-steps k g = trimmed-steps false _ k _ g (trimmed-steps true _ k _ g tt)
 
--- A trim adds a line and a scrap, or nothing.
-pub length-trim : (tall : Bool) (size side : ℕ) (t : Tree) → length (encode (trimTo tall size side t)) ≡ length (encode t) + trimLength size side
-unfolding trimTo trimLength
-length-trim tall size side t = go (ltb size side)
-  where
-    go : (b : Bool) → length (encode (cond b (lineOf tall size t Tree.scrapS) t)) ≡ length (encode t) + cond b (2 * nodeLength) 0
-    go true = omega (arith, length-line tall size t Tree.scrapS, length-scrap)
-    go false = omega arith
+  strikes-steps : (k : ℕ) (step : ℕ → Step) (after : Step) → ((i : ℕ) → k ≡ suc i → Steps Good p (step (suc i))) → Steps Good p after
+      → Steps Good p (strikes k step after)
+  unfolding strikes
+  strikes-steps zero step after f s = s
+  strikes-steps (suc i) step after f s = f i refl
 
-pub length-trimmed : (p q k : ℕ) (s : Sides) → length (encode (trimmed p q k s)) ≡ nodeLength + trimLength p (s .width) + trimLength q (s .height)
-unfolding trimmed
-length-trimmed p q k s =
-    omega (arith, length-trim false p (s .width) (trimTo true q (s .height) (leaf k)), length-trim true q (s .height) (leaf k), length-leaf k)
+  line-steps : (tall : Bool) (number i : ℕ) → leastLine rows cell tall number x y ≡ suc i → LineStep Good p tall (suc i) free
+  unfolding leastLine
+  line-steps tall number i e =
+      let most = number-most (λ j. addsTo rows cell tall number x y (suc j)) (crossed tall x y / 2) in
+      record { inside = record { least = omega arith; most = omega (arith, most, e); leaves = refl }; near = pieces free (omega arith) }
 
-pub trimLength-most : (size side : ℕ) → trimLength size side ≤ 2 * nodeLength
-unfolding trimLength
-trimLength-most size side = go (ltb size side)
-  where
-    go : (b : Bool) → cond b (2 * nodeLength) 0 ≤ 2 * nodeLength
-    go true = omega arith
-    go false = omega arith
+  ruled-steps : (number : ℕ) → Steps Good p (ruled rows cell x y number)
+  unfolding ruled firstPiece
+  ruled-steps number =
+      either-way (Steps Good p) (says-eq number 0) _ _ (λ _. tt)
+      (λ _. strikes-steps _ _ _ (λ i e. tt)
+      (strikes-steps _ _ _ (λ i e. line-steps false number i e)
+      (strikes-steps _ _ _ (λ i e. line-steps true number i e)
+      (strikes-steps _ _ _ (λ i e. cut-steps (suc i) (pieces (suc i) (omega (arith, e, number-most (suits rows false number x y) (rows .count))))) tt))))
 
--- A chosen line lies within the half of its side.
-pub within-of : {rows : Rows} {cell : ℕ → ℕ → ℕ} {s : Sides} {tall : Bool} {marked : ℕ → Bool} {c : ℕ} → AddsAt rows cell s tall marked c → Within tall c s
-within-of a = record { least = a .least; most = a .most }
-
--- Both parts have a length, or the whole has none.
-joined : (b d : Bool) (m n : ℕ) → together (cond b (Measured.Length m) Measured.Struck) (cond d (Measured.Length n) Measured.Struck) ≡ cond (b && d) (Measured.Length (nodeLength + m + n)) Measured.Struck
-unfolding together
-joined true true m n = refl
-joined true false m n = refl
-joined false d m n = refl
-
--- The two parts of a line have the area of the whole at most.
-areas : (tall : Bool) {c : ℕ} (s : Sides) → Within tall c s → near tall c s .width * near tall c s .height + far tall c s .width * far tall c s .height ≤ s .width * s .height
-unfolding sideOf near far
-areas true {c} s w =
-    let whole : c + (s .height - c) ≡ s .height = omega (arith, w .most) in
-    omega (arith, add-mul c (s .height - c) (s .width), ap (λ (k : ℕ). k * s .width) whole, mul-comm c (s .width), mul-comm (s .height - c) (s .width), mul-comm (s .height) (s .width))
-areas false {c} s w =
-    let whole : c + (s .width - c) ≡ s .width = omega (arith, w .most) in
-    omega (arith, add-mul c (s .width - c) (s .height), ap (λ (k : ℕ). k * s .height) whole)
-
-unit : (s : Sides) → Real s → 1 ≤ s .width * s .height
-unit s r = mul-le-mul {n₁ = 1} {m₁ = 1} (r .wide) (r .high)
+  pub next-steps : ((p .wanted ≡ waste → ⊥) → Good (p .wanted)) → Steps Good p (stepIn rows cell p)
+  unfolding stepIn
+  next-steps good =
+      either-way (Steps Good p) (says-eq (p .wanted) free) _ _ (λ _. ruled-steps _)
+      (λ _. either-way (Steps Good p) (says-eq (p .wanted) waste) _ _ (λ _. tt) (λ n. cut-steps (p .wanted) (good n)))
 
 module _ (rows : Rows) (cell : ℕ → ℕ → ℕ) where
-  -- The tree and the test look at the chosen parts alone, and these are smaller.
-  pub tree-parts : (g h : Sides → Tree) (s : Sides) → Real s → ((u : Sides) → Part u s → g u ≡ h u) → treeBy g rows s (choose rows cell s) ≡ treeBy h rows s (choose rows cell s)
-  unfolding treeBy Fact
-  tree-parts g h s r same = go (choose rows cell s) (fact rows cell s refl)
+  -- A line lies inside the side that it crosses, whatever the rows hold and whatever is wanted.
+  any-steps : (p : WantedPart) → Steps (λ _. Unit {0}) p (stepIn rows cell p)
+  any-steps p = next-steps rows cell p (λ _. Unit {0}) (λ k h. tt) (λ n. tt)
+
+  pub step-inside : (p : WantedPart) {tall : Bool} {c wanted : ℕ} → stepIn rows cell p ≡ Step.Line tall c wanted
+      → Line (crossed tall (p .width) (p .height)) c (rest (crossed tall (p .width) (p .height)) c)
+  step-inside p e = subst (Steps (λ _. Unit {0}) p) e (any-steps p) .inside
+
+  -- Its near part is free, or has a piece of the rows cut out of it.
+  pub step-among : (p : WantedPart) {tall : Bool} {c wanted : ℕ} → Wanted rows (p .wanted) → stepIn rows cell p ≡ Step.Line tall c wanted → wanted ≤ rows .count
+  step-among p w e = subst (Steps (λ k. k ≤ rows .count) p) e (next-steps rows cell p (λ k. k ≤ rows .count) (λ k h. h) (λ n. among w n)) .near
     where
-      go : (choice : Choice) → Fact rows cell s choice → treeBy g rows s choice ≡ treeBy h rows s choice
-      go Choice.Scrap f = refl
-      go (Choice.Piece k) f = refl
-      go (Choice.Line cut) f =
-          ap₂ (lineOf (cut .tall) (cut .at)) (same _ (near-part (cut .tall) s r (within-of (f .1)))) (same _ (far-part (cut .tall) s r (within-of (f .1))))
-      go (Choice.Trim k) f = refl
-      go Choice.Nothing f = refl
+      among : Wanted rows (p .wanted) → (p .wanted ≡ waste → ⊥) → p .wanted ≤ rows .count
+      among (inl h) n = h
+      among (inr e) n = absurd (n e)
 
-  pub test-parts : (g h : Sides → Bool) (s : Sides) → Real s → ((u : Sides) → Part u s → g u ≡ h u) → tracesBy g s (choose rows cell s) ≡ tracesBy h s (choose rows cell s)
-  unfolding tracesBy Fact
-  test-parts g h s r same = go (choose rows cell s) (fact rows cell s refl)
+-- A line at c lies inside the side of a part that it crosses.
+abbrev pub LineIn : Bool → ℕ → WantedPart → Type 0
+LineIn tall c p = Line (crossed tall (p .width) (p .height)) c (rest (crossed tall (p .width) (p .height)) c)
+
+pub near-less : (tall : Bool) (c wanted : ℕ) (p : WantedPart) → LineIn tall c p → sidesOf (nearWanted tall c wanted p) < sidesOf p
+near-less tall c wanted p l = part-less tall (p .width) (p .height) c (omega (arith, l .least, l .most))
+
+pub far-less : (tall : Bool) (c wanted : ℕ) (p : WantedPart) → LineIn tall c p → sidesOf (farWanted tall c wanted p) < sidesOf p
+far-less tall c wanted p l = part-less tall (p .width) (p .height) (rest (crossed tall (p .width) (p .height)) c) (omega (arith, l .least, l .most))
+
+module _ (rows : Rows) (cell : ℕ → ℕ → ℕ) where
+  -- The tree and the test look at the two parts of a line alone, and these are smaller.
+  tree-parts : (g h : WantedPart → Tree) (p : WantedPart) → ((q : WantedPart) → sidesOf q < sidesOf p → g q ≡ h q)
+      → treeBy g p (stepIn rows cell p) ≡ treeBy h p (stepIn rows cell p)
+  unfolding treeBy
+  tree-parts g h p same = go (stepIn rows cell p) (any-steps rows cell p)
     where
-      go : (choice : Choice) → Fact rows cell s choice → tracesBy g s choice ≡ tracesBy h s choice
-      go Choice.Scrap f = refl
-      go (Choice.Piece k) f = refl
-      go (Choice.Line cut) f =
-          ap₂ _&&_ (same _ (near-part (cut .tall) s r (within-of (f .1)))) (same _ (far-part (cut .tall) s r (within-of (f .1))))
-      go (Choice.Trim k) f = refl
-      go Choice.Nothing f = refl
+      go : (step : Step) → Steps (λ _. Unit {0}) p step → treeBy g p step ≡ treeBy h p step
+      go Step.Scrap s = refl
+      go (Step.Piece k) s = refl
+      go (Step.Line tall c wanted) s = ap₂ (Tree.line tall c) (same _ (near-less tall c wanted p (s .inside))) (same _ (far-less tall c wanted p (s .inside)))
+      go Step.Struck s = refl
 
-  -- The equations of the tree and of the test, where the choice is known.
-  pub traced-own : (s : Sides) {choice : Choice} → Real s → choose rows cell s ≡ choice → traced rows cell s ≡ treeBy (traced rows cell) rows s choice
-  unfolding traced tracedWithin
-  traced-own s r e =
-      own (λ k. tracedWithin k rows cell) (λ g u. treeBy g rows u (choose rows cell u)) (λ k u. refl) tree-parts s r
-      ∙ ap (treeBy (λ u. tracedWithin (u .width + u .height) rows cell u) rows s) e
+  test-parts : (g h : WantedPart → Bool) (p : WantedPart) → ((q : WantedPart) → sidesOf q < sidesOf p → g q ≡ h q)
+      → tracesBy g p (stepIn rows cell p) ≡ tracesBy h p (stepIn rows cell p)
+  unfolding tracesBy
+  test-parts g h p same = go (stepIn rows cell p) (any-steps rows cell p)
+    where
+      go : (step : Step) → Steps (λ _. Unit {0}) p step → tracesBy g p step ≡ tracesBy h p step
+      go Step.Scrap s = refl
+      go (Step.Piece k) s = refl
+      go (Step.Line tall c wanted) s = ap₂ _&&_ (same _ (near-less tall c wanted p (s .inside))) (same _ (far-less tall c wanted p (s .inside)))
+      go Step.Struck s = refl
 
-  pub traces-own : (s : Sides) {choice : Choice} → Real s → choose rows cell s ≡ choice → traces rows cell s ≡ tracesBy (traces rows cell) s choice
-  unfolding traces tracesWithin
-  traces-own s r e =
-      own (λ k. tracesWithin k rows cell) (λ g u. tracesBy g u (choose rows cell u)) (λ k u. refl) test-parts s r
-      ∙ ap (tracesBy (λ u. tracesWithin (u .width + u .height) rows cell u) s) e
+  -- The equations of the tree and of the test, where the next step is known.
+  pub traced-own : (p : WantedPart) {step : Step} → stepIn rows cell p ≡ step → traced rows cell p ≡ treeBy (traced rows cell) p step
+  unfolding traced
+  traced-own p e =
+      let tree : (WantedPart → Tree) → WantedPart → Tree = λ read q. treeBy read q (stepIn rows cell q) in
+      deep-own sidesOf Tree.scrapS tree tree-parts p ∙ ap (treeBy (deep sidesOf Tree.scrapS tree) p) e
 
-  -- The number of bytes, or that rule 6 strikes, where the choice is known.
-  measured-by : (s : Sides) {choice : Choice} → Real s → choose rows cell s ≡ choice → measured rows cell s ≡ cond (tracesBy (traces rows cell) s choice) (Measured.Length (length (encode (treeBy (traced rows cell) rows s choice)))) Measured.Struck
-  unfolding measured
-  measured-by s r e = ap₂ (λ (b : Bool) (t : Tree). cond b (Measured.Length (length (encode t))) Measured.Struck) (traces-own s r e) (traced-own s r e)
+  pub traces-own : (p : WantedPart) {step : Step} → stepIn rows cell p ≡ step → traces rows cell p ≡ tracesBy (traces rows cell) p step
+  unfolding traces
+  traces-own p e =
+      let test : (WantedPart → Bool) → WantedPart → Bool = λ read q. tracesBy read q (stepIn rows cell q) in
+      deep-own sidesOf false test test-parts p ∙ ap (tracesBy (deep sidesOf false test) p) e
 
-  module _ (s : Sides) (r : Real s) where
-    pub measured-scrap : choose rows cell s ≡ Choice.Scrap → Measured.Length nodeLength ≡ measured rows cell s
-    unfolding tracesBy treeBy
-    measured-scrap e = sym (measured-by s r e ∙ ap Measured.Length length-scrap)
+-- A step that is no line.
+abbrev pub IsLeaf : Step → Type 0
+IsLeaf Step.Scrap = Unit {0}
+IsLeaf (Step.Piece k) = Unit {0}
+IsLeaf (Step.Line tall c wanted) = ⊥
+IsLeaf Step.Struck = Unit {0}
 
-    pub measured-piece : {k : ℕ} → choose rows cell s ≡ Choice.Piece k → Measured.Length nodeLength ≡ measured rows cell s
-    unfolding tracesBy treeBy
-    measured-piece {k} e = sym (measured-by s r e ∙ ap Measured.Length (length-leaf k))
+scrap-length : length (encode Tree.scrapS) ≡ nodeLength
+unfolding encode
+scrap-length = node-length letterS 0
 
-    pub measured-trim : {k n : ℕ} → choose rows cell s ≡ Choice.Trim k → n ≡ nodeLength + trimLength (rows .width k) (s .width) + trimLength (rows .height k) (s .height) → Measured.Length n ≡ measured rows cell s
-    unfolding tracesBy treeBy
-    measured-trim {k} e h = sym (measured-by s r e ∙ ap Measured.Length (length-trimmed (rows .width k) (rows .height k) k s ∙ sym h))
+piece-length : (k : ℕ) → length (encode (Tree.pieceP k)) ≡ nodeLength
+unfolding encode
+piece-length k = node-length letterP k
 
-    pub measured-nothing : choose rows cell s ≡ Choice.Nothing → Measured.Struck ≡ measured rows cell s
-    unfolding tracesBy treeBy
-    measured-nothing e = sym (measured-by s r e)
+pub length-line : (tall : Bool) (c : ℕ) (s t : Tree) → length (encode (Tree.line tall c s t)) ≡ nodeLength + length (encode s) + length (encode t)
+unfolding encode
+length-line tall c s t = line-length (letterOf tall) c s t
 
-    -- A line's two parts, measured by themselves.
-    pub measured-line : {cut : Cut} {u w : Sides} {m n answer : Measured} → choose rows cell s ≡ Choice.Line cut → u ≡ near (cut .tall) (cut .at) s → w ≡ far (cut .tall) (cut .at) s → m ≡ measured rows cell u → n ≡ measured rows cell w → answer ≡ together m n → answer ≡ measured rows cell s
-    unfolding tracesBy treeBy measured
-    measured-line {cut} {u} {w} e f g h k l =
-        l
-        ∙ (ap₂ together (h ∙ ap (measured rows cell) f) (k ∙ ap (measured rows cell) g)
-        ∙ (joined (traces rows cell (near (cut .tall) (cut .at) s)) (traces rows cell (far (cut .tall) (cut .at) s)) _ _
-        ∙ (ap (λ (n : ℕ). cond (traces rows cell (near (cut .tall) (cut .at) s) && traces rows cell (far (cut .tall) (cut .at) s)) (Measured.Length n) Measured.Struck) (sym (length-line (cut .tall) (cut .at) _ _))
-        ∙ sym (measured-by s r e))))
+-- Both parts have a length, or the whole has none.
+joint : (b d : Bool) (m n : ℕ) → 1 ≤ m → 1 ≤ n → together (cond b m 0) (cond d n 0) ≡ cond (b && d) (nodeLength + m + n) 0
+unfolding together
+joint true true (suc m) (suc n) h k = refl
+joint true true zero n h k = absurd (omega arith)
+joint true true (suc m) zero h k = absurd (omega arith)
+joint true false zero n h k = refl
+joint true false (suc m) n h k = refl
+joint false d m n h k = refl
 
-  -- No tree is longer than five nodes and a line for each unit of area.
-  abbrev Bounded : Sides → Tree → Type 0
-  Bounded s t = length (encode t) + nodeLength ≤ 6 * nodeLength * (s .width * s .height)
+module _ (rows : Rows) (cell : ℕ → ℕ → ℕ) (p : WantedPart) where
+  -- What a step that is no line measures, and its node.
+  pub measured-leaf : (step : Step) → IsLeaf step → stepIn rows cell p ≡ step → leafLength step ≡ measured rows cell p
+  unfolding measured leafLength treeBy tracesBy
+  measured-leaf step l e = sym (ap₂ (λ (b : Bool) (t : Tree). cond b (length (encode t)) 0) (traces-own rows cell p e) (traced-own rows cell p e) ∙ go step l)
+    where
+      go : (step : Step) → IsLeaf step → cond (tracesBy (traces rows cell) p step) (length (encode (treeBy (traced rows cell) p step))) 0 ≡ leafLength step
+      go Step.Scrap l = scrap-length
+      go (Step.Piece k) l = piece-length k
+      go Step.Struck l = refl
+      go (Step.Line tall c wanted) l = absurd l
 
-  grown : (s : Sides) → Real s → ((u : Sides) → Part u s → Bounded u (traced rows cell u)) → (choice : Choice) → Fact rows cell s choice → Bounded s (treeBy (traced rows cell) rows s choice)
-  unfolding treeBy Fact
-  grown s r below Choice.Scrap f = omega (arith, length-scrap, unit s r)
-  grown s r below (Choice.Piece k) f = omega (arith, length-leaf k, unit s r)
-  grown s r below (Choice.Line cut) f =
-      omega (
-        arith,
-        length-line (cut .tall) (cut .at) (traced rows cell (near (cut .tall) (cut .at) s)) (traced rows cell (far (cut .tall) (cut .at) s)),
-        below _ (near-part (cut .tall) s r (within-of (f .1))),
-        below _ (far-part (cut .tall) s r (within-of (f .1))),
-        areas (cut .tall) s (within-of (f .1)),
-      )
-  grown s r below (Choice.Trim k) f =
-      omega (arith, length-trimmed (rows .width k) (rows .height k) k s, trimLength-most (rows .width k) (s .width), trimLength-most (rows .height k) (s .height), unit s r)
-  grown s r below Choice.Nothing f = omega (arith, length-scrap, unit s r)
+  pub nodes-leaf : (step : Step) → IsLeaf step → stepIn rows cell p ≡ step → encode (traced rows cell p) ≡ nodeOf step
+  unfolding treeBy encode nodeOf
+  nodes-leaf Step.Scrap l e = ap encode (traced-own rows cell p e)
+  nodes-leaf (Step.Piece k) l e = ap encode (traced-own rows cell p e)
+  nodes-leaf Step.Struck l e = ap encode (traced-own rows cell p e)
+  nodes-leaf (Step.Line tall c wanted) l e = absurd l
 
-  pub nodes-most : (s : Sides) → Real s → Bounded s (traced rows cell s)
+  -- A line's two parts, each by itself.
+  module _ {tall : Bool} {c wanted : ℕ} (e : stepIn rows cell p ≡ Step.Line tall c wanted) where
+    pub measured-line : together (measured rows cell (nearWanted tall c wanted p)) (measured rows cell (farWanted tall c wanted p)) ≡ measured rows cell p
+    unfolding measured treeBy tracesBy
+    measured-line =
+        let near = traced rows cell (nearWanted tall c wanted p) in
+        let far = traced rows cell (farWanted tall c wanted p) in
+        let near-traces = traces rows cell (nearWanted tall c wanted p) in
+        let far-traces = traces rows cell (farWanted tall c wanted p) in
+        joint near-traces far-traces (length (encode near)) (length (encode far)) (omega (arith, encode-least near)) (omega (arith, encode-least far))
+        ∙ sym (ap₂ (λ (b : Bool) (t : Tree). cond b (length (encode t)) 0) (traces-own rows cell p e) (traced-own rows cell p e)
+        ∙ ap (λ (n : ℕ). cond (near-traces && far-traces) n 0) (length-line tall c near far))
+
+    pub nodes-line : encode (traced rows cell p)
+        ≡ nodeOf (Step.Line tall c wanted) ++ (encode (traced rows cell (nearWanted tall c wanted p)) ++ encode (traced rows cell (farWanted tall c wanted p)))
+    unfolding treeBy encode nodeOf
+    nodes-line = ap encode (traced-own rows cell p e)
+
+-- No tree is longer than two nodes for each unit of area.
+abbrev Bounded : WantedPart → Tree → Type 0
+Bounded p t = 1 ≤ p .width → 1 ≤ p .height → length (encode t) + nodeLength ≤ 2 * nodeLength * (p .width * p .height)
+
+unit : (x y n : ℕ) → 1 ≤ x → 1 ≤ y → n ≡ nodeLength → n + nodeLength ≤ 2 * nodeLength * (x * y)
+unit x y n h k e = omega (arith, e, mul-le-mul {n₁ = 1} {m₁ = 1} h k)
+
+module _ (rows : Rows) (cell : ℕ → ℕ → ℕ) where
+  nodes-most : (p : WantedPart) → Bounded p (traced rows cell p)
+  unfolding treeBy
   nodes-most =
-      by-parts (λ s. Bounded s (traced rows cell s))
-      (λ s r below. subst (Bounded s) (sym (traced-own s r refl)) (grown s r below (choose rows cell s) (fact rows cell s refl)))
-
-  -- So its length is that of a short file.
-  pub measured-short : {m : Measured} (s : Sides) → Real s → s .width ≤ sideMax → s .height ≤ sideMax → m ≡ measured rows cell s → Short m
-  unfolding measured Short
-  measured-short s r h k e = subst Short (sym e) (go (traces rows cell s))
+      by-size sidesOf (λ p. Bounded p (traced rows cell p))
+      (λ p below. subst (Bounded p) (sym (traced-own rows cell p refl)) (grown p below (stepIn rows cell p) (any-steps rows cell p)))
     where
-      go : (b : Bool) → Short (cond b (Measured.Length (length (nodesOf rows cell s))) Measured.Struck)
-      go true = omega (arith, nodes-most s r, mul-le-mul {n₁ = s .width} {m₁ = s .height} h k)
-      go false = tt
+      grown : (p : WantedPart) → ((q : WantedPart) → sidesOf q < sidesOf p → Bounded q (traced rows cell q)) → (step : Step) → Steps (λ _. Unit {0}) p step
+          → Bounded p (treeBy (traced rows cell) p step)
+      grown p below Step.Scrap s h k = unit _ _ _ h k scrap-length
+      grown p below (Step.Piece n) s h k = unit _ _ _ h k (piece-length n)
+      grown p below (Step.Line tall c wanted) s h k =
+          let l = s .inside in
+          let near = below (nearWanted tall c wanted p) (near-less tall c wanted p l) (least tall _ _ h (l .least)) (least tall _ _ (l .least) k) in
+          let far = below (farWanted tall c wanted p) (far-less tall c wanted p l) (least tall _ _ h (line-far l)) (least tall _ _ (line-far l) k) in
+          let all = length-line tall c (traced rows cell (nearWanted tall c wanted p)) (traced rows cell (farWanted tall c wanted p)) in
+          omega (arith, all, near, far, parts-area tall (p .width) (p .height) c _ l)
+      grown p below Step.Struck s h k = unit _ _ _ h k scrap-length
+
+  pub measured-most : (p : WantedPart) → 1 ≤ p .width → p .width ≤ sideMax → 1 ≤ p .height → p .height ≤ sideMax → measured rows cell p ≤ lengthMost
+  unfolding measured
+  measured-most p h k l m = go (traces rows cell p)
+    where
+      go : (b : Bool) → cond b (length (encode (traced rows cell p))) 0 ≤ lengthMost
+      go true = omega (arith, nodes-most p h l, mul-le-mul {n₁ = p .width} {m₁ = p .height} k m)
+      go false = omega arith

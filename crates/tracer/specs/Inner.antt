@@ -1,248 +1,194 @@
 -- The tree rules as they compute, and the tracing; nobody has to believe it: `traced-by-rules` and `rules-trace` say that the tree is that of `TreeBy`.
-use Prim.Native.Nat.{ℕ, suc, _+_, _/_, _≤_, _<_, zero, _*_}
+use Prim.Native.Nat.{ℕ, zero, suc, _+_, _-_, _*_, _≤_, _<_}
 use mathlib.Core.Bool.{Bool, true, false, _&&_, cond}
 use mathlib.Core.Path.{_≡_}
 use mathlib.Core.List.{List}
+use mathlib.Core.Logic.{_⊎_}
 use lib.Dec.{leb, ltb, eqb}
 use lib.ListN.{length}
-use Rattle.laws.specs.Inner.{firstBelow, Says}
-use Rattle.cutting.specs.Dissection.{rest}
-use Rattle.cells.specs.Inner.{fits, Holds}
-use Rattle.points.specs.Inner.{Rows}
-use Rattle.cutting.specs.Piece.{Fits, Piece, Numbered, Lays, Inside}
-use Rattle.laws.specs.Put.{put}
-use Rattle.cutting.specs.Limits.{sideMax, piecesMax}
-use Rattle.cutting.specs.Points.{P, Q}
+use Rattle.laws.specs.Inner.{firstNumber, deep}
+use Rattle.cutting.specs.Inner.{halfOf}
+use Rattle.cutting.specs.Limits.{sideMax}
+use Rattle.cutting.specs.Piece.{Piece, Inside}
+use Rattle.cutting.specs.Dissection.{rest, crossed, partWidth, partHeight, Line}
 use Rattle.cutting.specs.Tree.{Tree, Valid, earning}
-use Rattle.nodes.specs.Encoding.{letterV, letterH, nodeLength, encode}
-use Rattle.tracer.specs.declared.Sides.{Sides}
-use Rattle.tracer.specs.declared.Cut.{Cut}
-use Rattle.tracer.specs.declared.Choice.{Choice}
-use Rattle.tracer.specs.Rules.{Least, None}
-use Rattle.tracer.specs.declared.Measured.{Measured}
+use Rattle.fields.specs.Format.{nodeLength, letterP, letterS}
+use Rattle.cells.specs.Inner.{fits, Holds}
+use Rattle.board.specs.Inner.{Rows, rowsOn, entries, widthOn, countOn}
+use Rattle.nodes.specs.Encoding.{letterOf, node, encode}
+use Rattle.tracer.specs.declared.Step.{Step}
 
--- The rules over rows of pieces and marks of points: what they choose for the top of a tree.
+-- What is wanted of a part: whatever the rules say, a piece cut out of it (its number), or nothing (it is waste).
+abbrev pub free : ℕ
+free = 0
 
--- The rectangle x by y.
-abbrev pub by : ℕ → ℕ → Sides
-by x y = record { width = x; height = y }
+abbrev pub waste : ℕ
+waste = 65_535
 
--- A vertical line at c, a horizontal line at d.
-abbrev pub across : ℕ → Cut
-across c = record { tall = false; at = c }
+-- A part of the sheet that is traced.
+pub record WantedPart : Type 0 where
+  pub width : ℕ
+  pub height : ℕ
+  pub wanted : ℕ
 
-abbrev pub up : ℕ → Cut
-up d = record { tall = true; at = d }
+-- x by y, traced by the rules.
+abbrev pub whole : ℕ → ℕ → WantedPart
+whole x y = record { width = x; height = y; wanted = free }
 
--- The side that a line goes through: a tall question is one of heights.
-unfoldable pub sideOf : Bool → Sides → ℕ
-sideOf true s = s .height
-sideOf false s = s .width
+-- The two parts of a line, of which this is wanted: a piece is cut out of the near one, and the far one is waste then.
+abbrev pub beyond : ℕ → ℕ
+beyond wanted = cond (eqb wanted free) free waste
 
--- The two parts that a line leaves, the left or lower one and the other.
-unfoldable pub near : Bool → ℕ → Sides → Sides
-near true d s = by (s .width) d
-near false c s = by c (s .height)
+abbrev pub nearWanted : Bool → ℕ → ℕ → WantedPart → WantedPart
+nearWanted tall c wanted p = record { width = partWidth tall (p .width) c; height = partHeight tall (p .height) c; wanted = wanted }
 
-unfoldable pub far : Bool → ℕ → Sides → Sides
-far true d s = by (s .width) (rest (s .height) d)
-far false c s = by (rest (s .width) c) (s .height)
+abbrev pub farWanted : Bool → ℕ → ℕ → WantedPart → WantedPart
+farWanted tall c wanted p =
+    let r = rest (crossed tall (p .width) (p .height)) c in
+    record { width = partWidth tall (p .width) r; height = partHeight tall (p .height) r; wanted = beyond wanted }
 
--- The number in the cell of a rectangle.
-abbrev pub numberOf : (ℕ → ℕ → ℕ) → Sides → ℕ
-numberOf cell s = cell (s .width) (s .height)
+-- The rules over the rows that the code reads.
 
--- Has the piece p by q of value v the value V (`number`), and has it exactly this size, or else does it fit?
-unfoldable pub suits : Bool → ℕ → ℕ → ℕ → ℕ → Sides → Bool
-suits true p q v number s = eqb v number && (eqb p (s .width) && eqb q (s .height))
-suits false p q v number s = eqb v number && fits p q (s .width) (s .height)
+-- What the cells of a line's two parts add to.
+unfoldable pub twoCells : (ℕ → ℕ → ℕ) → Bool → ℕ → ℕ → ℕ → ℕ
+twoCells cell tall x y c =
+    let r = rest (crossed tall x y) c in
+    cell (partWidth tall x c) (partHeight tall y c) + cell (partWidth tall x r) (partHeight tall y r)
 
--- "the first piece of exactly this size with v = V", "the first piece that fits with v = V", by index from 0; n where there is none.
-unfoldable pub firstPiece : Bool → (ℕ → ℕ) → (ℕ → ℕ) → (ℕ → ℕ) → ℕ → ℕ → Sides → ℕ
-firstPiece exact width height value n number s = firstBelow (λ k. suits exact (width k) (height k) (value k) number s) n
+-- Has the piece at index k the value V (`number`), and has it exactly this size, or else does it fit?
+unfoldable pub suits : Rows → Bool → ℕ → ℕ → ℕ → ℕ → Bool
+suits rows exact number x y k =
+    eqb (rows .value k) number && cond exact (eqb (rows .width k) x && eqb (rows .height k) y) (fits (rows .width k) (rows .height k) x y)
+
+-- "the first piece of exactly this size with v = V", "the first piece that fits with v = V", by its number; 0 where there is none.
+unfoldable pub firstPiece : Rows → Bool → ℕ → ℕ → ℕ → ℕ
+firstPiece rows exact number x y = firstNumber (suits rows exact number x y) (rows .count)
+
+-- A mark of P, or of Q where it is `tall`.
+abbrev pub marks : Rows → Bool → ℕ → Bool
+marks rows tall c = cond tall (rows .inQ c) (rows .inP c)
 
 -- Is c marked, and do the two cells of a line at c "add to V"?
-unfoldable pub addsTo : Bool → (ℕ → Bool) → (ℕ → ℕ → ℕ) → ℕ → Sides → ℕ → Bool
-addsTo tall marked cell number s c = marked c && eqb (numberOf cell (near tall c s) + numberOf cell (far tall c s)) number
+unfoldable pub addsTo : Rows → (ℕ → ℕ → ℕ) → Bool → ℕ → ℕ → ℕ → ℕ → Bool
+addsTo rows cell tall number x y c = marks rows tall c && eqb (twoCells cell tall x y c) number
 
--- "the least c in P, c ≤ x/2, whose two cells add to V"; beyond x/2 where there is none.
-unfoldable pub leastLine : Bool → (ℕ → Bool) → (ℕ → ℕ → ℕ) → ℕ → Sides → ℕ
-leastLine tall marked cell number s = suc (firstBelow (λ i. addsTo tall marked cell number s (suc i)) (sideOf tall s / 2))
+-- "the least c in P, c ≤ x/2, whose two cells add to V"; 0 where there is none.
+unfoldable pub leastLine : Rows → (ℕ → ℕ → ℕ) → Bool → ℕ → ℕ → ℕ → ℕ
+leastLine rows cell tall number x y = firstNumber (λ i. addsTo rows cell tall number x y (suc i)) (halfOf (crossed tall x y))
 
--- A rule makes the choice where it strikes, "else" the rules after it do.
-unfoldable pub orElse : Bool → Choice → Choice → Choice
-orElse true choice after = choice
-orElse false choice after = after
+-- A line at `size` where that is inside the side, else what comes after it.
+unfoldable pub trimmedTo : Bool → ℕ → ℕ → ℕ → Step → Step
+trimmedTo tall size side wanted after = cond (leb 1 size && ltb size side) (Step.Line tall size wanted) after
+
+-- "vertical line at p where p < x, in the left part a horizontal line at q where q < y, then the piece": the next step to piece k.
+unfoldable pub cutOut : Rows → ℕ → ℕ → ℕ → Step
+cutOut rows x y k = trimmedTo false (rows .width (k - 1)) x k (trimmedTo true (rows .height (k - 1)) y k (Step.Piece k))
+
+-- A rule strikes where it found a number, "else" the rules after it do.
+unfoldable pub strikes : ℕ → (ℕ → Step) → Step → Step
+strikes zero step after = after
+strikes (suc k) step after = step (suc k)
 
 -- The order of the rules is this function; of what computes nothing else knows it. The cell holds `number`, which is V.
-unfoldable pub chooseFor : Rows → (ℕ → ℕ → ℕ) → Sides → ℕ → Choice
-chooseFor rows cell s number =
-    let exact = firstPiece true (rows .width) (rows .height) (rows .value) (rows .count) number s in
-    let c = leastLine false (rows .inP) cell number s in
-    let d = leastLine true (rows .inQ) cell number s in
-    let fitting = firstPiece false (rows .width) (rows .height) (rows .value) (rows .count) number s in
+unfoldable pub ruled : Rows → (ℕ → ℕ → ℕ) → ℕ → ℕ → ℕ → Step
+ruled rows cell x y number =
     -- "(1) V = 0: scrap."
-    orElse (eqb number 0) Choice.Scrap
+    cond (eqb number 0)
+    Step.Scrap
     -- "(2) Else the first piece of exactly this size with v = V."
-    (orElse (ltb exact (rows .count)) (Choice.Piece exact)
+    (strikes (firstPiece rows true number x y) Step.Piece
     -- "(3) Else the least c in P, c ≤ x/2, whose two cells add to V: vertical line, both parts by these rules."
-    (orElse (leb c (s .width / 2)) (Choice.Line (across c))
+    (strikes (leastLine rows cell false number x y) (λ c. Step.Line false c free)
     -- "(4) Else the same with Q: horizontal line."
-    (orElse (leb d (s .height / 2)) (Choice.Line (up d))
+    (strikes (leastLine rows cell true number x y) (λ d. Step.Line true d free)
     -- "(5) Else the first piece that fits with v = V"
-    (orElse (ltb fitting (rows .count)) (Choice.Trim fitting)
+    (strikes (firstPiece rows false number x y) (cutOut rows x y)
     -- "(6) Else refusal 7."
-    Choice.Nothing))))
+    Step.Struck))))
 
-unfoldable pub choose : Rows → (ℕ → ℕ → ℕ) → Sides → Choice
-choose rows cell s = chooseFor rows cell s (numberOf cell s)
+-- The next step in a part.
+unfoldable pub stepIn : Rows → (ℕ → ℕ → ℕ) → WantedPart → Step
+stepIn rows cell p =
+    cond (eqb (p .wanted) free)
+    (ruled rows cell (p .width) (p .height) (cell (p .width) (p .height)))
+    (cond (eqb (p .wanted) waste) Step.Scrap (cutOut rows (p .width) (p .height) (p .wanted)))
 
--- The rules over the rows that the code reads: what holds where a choice is made. `chosen` says that `choose` makes it.
+-- "The tree for x by y" as it computes, and its length in the file.
 
-module _ (rows : Rows) (cell : ℕ → ℕ → ℕ) (s : Sides) where
-  -- "piece of exactly this size with v = V"
-  pub record ExactAt (k : ℕ) : Type 0 where
-    pub among : k < rows .count
-    pub width : rows .width k ≡ s .width
-    pub height : rows .height k ≡ s .height
-    pub value : rows .value k ≡ numberOf cell s
-
-  -- "piece that fits with v = V"
-  pub record FittingAt (k : ℕ) : Type 0 where
-    pub among : k < rows .count
-    pub fits : Fits (rows .width k) (rows .height k) (s .width) (s .height)
-    pub value : rows .value k ≡ numberOf cell s
-
-  -- "c in P, c ≤ x/2, whose two cells add to V", "the same with Q"; zero belongs to neither.
-  pub record AddsAt (tall : Bool) (marked : ℕ → Bool) (c : ℕ) : Type 0 where
-    pub least : 1 ≤ c
-    pub most : c ≤ sideOf tall s / 2
-    pub point : marked c ≡ true
-    pub sum : numberOf cell (near tall c s) + numberOf cell (far tall c s) ≡ numberOf cell s
-
-  pub data Chosen : Choice → Type 0 where
-    rule1 : numberOf cell s ≡ 0 → Chosen Choice.Scrap
-    rule2 : {k : ℕ} → (numberOf cell s ≡ 0 → ⊥) → Least ExactAt k → Chosen (Choice.Piece k)
-    rule3 : {c : ℕ} → (numberOf cell s ≡ 0 → ⊥) → None ExactAt → Least (AddsAt false (rows .inP)) c → Chosen (Choice.Line (across c))
-    rule4 : {d : ℕ} → (numberOf cell s ≡ 0 → ⊥) → None ExactAt → None (AddsAt false (rows .inP)) → Least (AddsAt true (rows .inQ)) d → Chosen (Choice.Line (up d))
-    rule5 : {k : ℕ} → (numberOf cell s ≡ 0 → ⊥) → None ExactAt → None (AddsAt false (rows .inP)) → None (AddsAt true (rows .inQ)) → Least FittingAt k → Chosen (Choice.Trim k)
-    rule6 : (numberOf cell s ≡ 0 → ⊥) → None ExactAt → None (AddsAt false (rows .inP)) → None (AddsAt true (rows .inQ)) → None FittingAt → Chosen Choice.Nothing
-
--- "The tree for x by y" as it computes, and its length in the file. `traced-by-rules` and `rules-trace` say that it is the tree by
--- the rules.
-
--- A line and the trees of its two parts.
-unfoldable pub lineOf : Bool → ℕ → Tree → Tree → Tree
-lineOf true d s t = Tree.lineH d s t
-lineOf false c s t = Tree.lineV c s t
-
--- A line at `size` "where" that is less than the side; "the parts cut off are scrap".
-unfoldable pub trimTo : Bool → ℕ → ℕ → Tree → Tree
-trimTo tall size side t = cond (ltb size side) (lineOf tall size t Tree.scrapS) t
-
--- "numbered from 1": the piece at index k.
-abbrev pub leaf : ℕ → Tree
-leaf k = Tree.pieceP (k + 1)
-
--- "vertical line at p where p < x, in the left part a horizontal line at q where q < y, then the piece"
-unfoldable pub trimmed : ℕ → ℕ → ℕ → Sides → Tree
-trimmed p q k s = trimTo false p (s .width) (trimTo true q (s .height) (leaf k))
-
--- The tree for a choice, where `part` is the tree of a part. It is scrap where rule 6 strikes.
-unfoldable pub treeBy : (Sides → Tree) → Rows → Sides → Choice → Tree
-treeBy part rows s Choice.Scrap = Tree.scrapS
-treeBy part rows s (Choice.Piece k) = leaf k
-treeBy part rows s (Choice.Line cut) = lineOf (cut .tall) (cut .at) (part (near (cut .tall) (cut .at) s)) (part (far (cut .tall) (cut .at) s))
-treeBy part rows s (Choice.Trim k) = trimmed (rows .width k) (rows .height k) k s
-treeBy part rows s Choice.Nothing = Tree.scrapS
+-- The tree for a step, where `part` is the tree of a part. It is scrap where rule 6 strikes.
+unfoldable pub treeBy : (WantedPart → Tree) → WantedPart → Step → Tree
+treeBy part p Step.Scrap = Tree.scrapS
+treeBy part p (Step.Piece k) = Tree.pieceP k
+treeBy part p (Step.Line tall c wanted) = Tree.line tall c (part (nearWanted tall c wanted p)) (part (farWanted tall c wanted p))
+treeBy part p Step.Struck = Tree.scrapS
 
 -- Does rule 6 strike nowhere, where `part` says it of a part?
-unfoldable pub tracesBy : (Sides → Bool) → Sides → Choice → Bool
-tracesBy part s Choice.Scrap = true
-tracesBy part s (Choice.Piece k) = true
-tracesBy part s (Choice.Line cut) = part (near (cut .tall) (cut .at) s) && part (far (cut .tall) (cut .at) s)
-tracesBy part s (Choice.Trim k) = true
-tracesBy part s Choice.Nothing = false
+unfoldable pub tracesBy : (WantedPart → Bool) → WantedPart → Step → Bool
+tracesBy part p Step.Scrap = true
+tracesBy part p (Step.Piece k) = true
+tracesBy part p (Step.Line tall c wanted) = part (nearWanted tall c wanted p) && part (farWanted tall c wanted p)
+tracesBy part p Step.Struck = false
 
--- With fewer than k lines one below the other. Each line shortens a side, so that `traced` has as many as there can be:
--- `traced-own` and `traces-own` give the equations without a depth.
-unfoldable pub tracedWithin : ℕ → Rows → (ℕ → ℕ → ℕ) → Sides → Tree
-tracedWithin zero rows cell s = Tree.scrapS
-tracedWithin (suc k) rows cell s = treeBy (tracedWithin k rows cell) rows s (choose rows cell s)
+-- Each line shortens a side.
+abbrev pub sidesOf : WantedPart → ℕ
+sidesOf p = p .width + p .height
 
-unfoldable pub tracesWithin : ℕ → Rows → (ℕ → ℕ → ℕ) → Sides → Bool
-tracesWithin zero rows cell s = false
-tracesWithin (suc k) rows cell s = tracesBy (tracesWithin k rows cell) s (choose rows cell s)
+-- The tree by the rules, and whether rule 6 strikes nowhere in it. `traced-own` and `traces-own` are their equations.
+unfoldable pub traced : Rows → (ℕ → ℕ → ℕ) → WantedPart → Tree
+traced rows cell = deep sidesOf Tree.scrapS (λ part p. treeBy part p (stepIn rows cell p))
 
--- The tree by the rules, and whether rule 6 strikes nowhere in it.
-unfoldable pub traced : Rows → (ℕ → ℕ → ℕ) → Sides → Tree
-traced rows cell s = tracedWithin (s .width + s .height) rows cell s
+unfoldable pub traces : Rows → (ℕ → ℕ → ℕ) → WantedPart → Bool
+traces rows cell = deep sidesOf false (λ part p. tracesBy part p (stepIn rows cell p))
 
-unfoldable pub traces : Rows → (ℕ → ℕ → ℕ) → Sides → Bool
-traces rows cell s = tracesWithin (s .width + s .height) rows cell s
+-- The number of bytes of the tree's nodes, 0 where rule 6 strikes.
+unfoldable pub measured : Rows → (ℕ → ℕ → ℕ) → WantedPart → ℕ
+measured rows cell p = cond (traces rows cell p) (length (encode (traced rows cell p))) 0
 
--- The bytes of the tree's nodes.
-abbrev pub nodesOf : Rows → (ℕ → ℕ → ℕ) → Sides → List ℕ
-nodesOf rows cell s = encode (traced rows cell s)
+-- The node of a step.
+unfoldable pub nodeOf : Step → List ℕ
+nodeOf Step.Scrap = node letterS 0
+nodeOf (Step.Piece k) = node letterP k
+nodeOf (Step.Line tall c wanted) = node (letterOf tall) c
+nodeOf Step.Struck = node letterS 0
 
--- Their number, or that rule 6 strikes.
-unfoldable pub measured : Rows → (ℕ → ℕ → ℕ) → Sides → Measured
-measured rows cell s = cond (traces rows cell s) (Measured.Length (length (nodesOf rows cell s))) Measured.Struck
+-- The length of a step that is no line; 0 where rule 6 strikes.
+unfoldable pub leafLength : Step → ℕ
+leafLength Step.Scrap = nodeLength
+leafLength (Step.Piece k) = nodeLength
+leafLength (Step.Line tall c wanted) = nodeLength
+leafLength Step.Struck = 0
 
--- The letter of a line.
-unfoldable pub letterOf : Bool → ℕ
-letterOf true = letterH
-letterOf false = letterV
+-- A line's node and the lengths of its two parts; 0 where one has none.
+unfoldable pub together : ℕ → ℕ → ℕ
+together zero n = 0
+together (suc m) zero = 0
+together (suc m) (suc n) = nodeLength + suc m + suc n
 
--- What a line at `size` adds to the length, with the scrap that it cuts off: two nodes, where it is less than the side.
-unfoldable pub trimLength : ℕ → ℕ → ℕ
-trimLength size side = cond (ltb size side) (2 * nodeLength) 0
-
--- A line's node and the lengths of its two parts.
-unfoldable pub together : Measured → Measured → Measured
-together (Measured.Length m) (Measured.Length n) = Measured.Length (nodeLength + m + n)
-together (Measured.Length m) Measured.Struck = Measured.Struck
-together Measured.Struck r = Measured.Struck
-
--- No tree on a sheet is longer than this: five nodes and a line for each unit of area.
+-- No tree on a sheet is longer than this: two nodes for each unit of area.
 abbrev pub lengthMost : ℕ
-lengthMost = 6 * nodeLength * (sideMax * sideMax)
+lengthMost = 2 * nodeLength * (sideMax * sideMax)
 
--- The length is no longer than that.
-unfoldable pub Short : Measured → Type 0
-Short (Measured.Length n) = n ≤ lengthMost
-Short Measured.Struck = Unit {0}
+-- What is wanted is free, one of the pieces, or waste.
+abbrev pub Wanted : Rows → ℕ → Type 0
+Wanted rows wanted = (wanted ≤ rows .count) ⊎ (wanted ≡ waste)
+
+-- Every piece is at least 1 by 1, or nothing would shrink.
+abbrev pub Sized : Rows → Type 0
+Sized rows = (k : ℕ) → k < rows .count → (1 ≤ rows .width k) × (1 ≤ rows .height k)
 
 -- The table holds the rectangle's rows, and the rectangle lies in them.
-pub record OnTable (a : ℕ) (t : List ℕ) (s : Sides) : Type 0 where
-  pub holds : Holds a (s .height) t
-  pub inside : Inside (s .width) (s .height) a (s .height)
+pub record OnTable (a : ℕ) (t : List ℕ) (x y : ℕ) : Type 0 where
+  pub holds : Holds a y t
+  pub inside : Inside x y a y
 
--- What the tracing may rely on.
-pub record Ready (a count : ℕ) (t : List ℕ) (s : Sides) : Type 0 where
-  pub few : count ≤ piecesMax
-  pub table : OnTable a t s
+-- What the tracing of a part may rely on.
+pub record Traceable (board t : List ℕ) (p : WantedPart) : Type 0 where
+  pub few : countOn board ≤ entries
+  pub sized : Sized (rowsOn board)
+  pub wanted : Wanted (rowsOn board) (p .wanted)
+  pub table : OnTable (widthOn board) t (p .width) (p .height)
 
--- There is room in o for the bytes e at a place.
-pub record Room (o : List ℕ) (at : ℕ) (e : List ℕ) : Type 0 where
-  pub room : at + length e ≤ length o
-
--- The bytes e were written into o at a place: o is p then, and the place after them is `next`.
-pub record Wrote (o : List ℕ) (at : ℕ) (e : List ℕ) (next : ℕ) (p : List ℕ) : Type 0 where
-  pub place : next ≡ at + length e
-  pub bytes : p ≡ put o at e
-
--- The rows hold a list of pieces: index k is piece number k + 1.
-pub record HoldsPieces (rows : Rows) (pieces : List Piece) : Type 0 where
-  pub count : rows .count ≡ length pieces
-  pub piece : (k : ℕ) → suc k ≤ rows .count → Numbered pieces (k + 1) (rows .width k) (rows .height k) (rows .value k)
-
--- The points of P and Q, on a sheet a by b, are marked, and nothing else is.
-pub record MarksPoints (rows : Rows) (pieces : List Piece) (a b : ℕ) : Type 0 where
-  pub inP : (c : ℕ) → c ≤ a → Says (rows .inP c) (P (Lays pieces) a c)
-  pub inQ : (d : ℕ) → d ≤ b → Says (rows .inQ d) (Q (Lays pieces) b d)
-
--- The tree dissects the rectangle and earns this number.
-pub record Dissects (pieces : List Piece) (t : Tree) (s : Sides) (number : ℕ) : Type 0 where
-  pub valid : Valid pieces t (s .width) (s .height)
+-- The tree dissects x by y and earns this number.
+pub record Dissects (pieces : List Piece) (t : Tree) (x y number : ℕ) : Type 0 where
+  pub valid : Valid pieces t x y
   pub earns : earning pieces t ≡ number

@@ -1,11 +1,12 @@
 -- "The tree for x by y, with V the number in its cell:" the tree rules in their order.
 use Prim.Native.Nat.{ℕ, _+_, _<_}
+use mathlib.Core.Bool.{Bool, true, false, cond}
 use mathlib.Core.Path.{_≡_}
 use mathlib.Core.List.{List}
-use Rattle.cutting.specs.Piece.{Piece, Numbered, Lays, Fits}
-use Rattle.cutting.specs.Dissection.{rest}
-use Rattle.cutting.specs.Points.{P, Q}
-use Rattle.cutting.specs.Candidate.{UpToHalf}
+use Rattle.cutting.specs.Piece.{Piece, Numbered, Lay, Lays, Turned, Fits}
+use Rattle.cutting.specs.Dissection.{rest, crossed, partWidth, partHeight}
+use Rattle.cutting.specs.Points.{P}
+use Rattle.cutting.specs.Candidate.{Tried}
 use Rattle.cutting.specs.Tree.{Tree}
 
 -- "the first", "the least": k is in the set, and nothing before it is. "Else": nothing is in the set.
@@ -16,17 +17,14 @@ pub record Least (S : ℕ → Type 0) (k : ℕ) : Type 0 where
 abbrev pub None : (ℕ → Type 0) → Type 0
 None S = (k : ℕ) → S k → ⊥
 
--- "c in P, c ≤ x/2, whose two cells add to V": a point c of a side, where `part` gives the number in the cell of a part, and V in
--- that of the whole.
-pub record AddsUp (Point : ℕ → Type 0) (part : ℕ → ℕ) (side c : ℕ) : Type 0 where
-  pub point : Point c
-  pub half : UpToHalf c side
-  pub sum : part c + part (rest side c) ≡ part side
-
 -- "line at p where p < x .. the parts cut off are scrap": the tree of a part p of a side x, and that of the whole.
-pub data Trimmed (line : ℕ → Tree → Tree → Tree) (p x : ℕ) (part : Tree) : Tree → Type 0 where
-  cut : p < x → Trimmed line p x part (line p part Tree.scrapS)
-  whole : p ≡ x → Trimmed line p x part part
+pub data Trimmed (tall : Bool) (p x : ℕ) (part : Tree) : Tree → Type 0 where
+  cut : p < x → Trimmed tall p x part (Tree.line tall p part Tree.scrapS)
+  whole : p ≡ x → Trimmed tall p x part part
+
+-- The points of P for a vertical line, and of Q for a horizontal one, which is P of what is turned.
+abbrev pub PointOf : Lay → ℕ → ℕ → Bool → ℕ → Type 0
+PointOf lay a b tall c = P (cond tall (Turned lay) lay) (cond tall b a) c
 
 -- The sheet is a by b, and `cell x y` is the number in cell (x, y).
 module _ (pieces : List Piece) (a b : ℕ) (cell : ℕ → ℕ → ℕ) where
@@ -34,12 +32,15 @@ module _ (pieces : List Piece) (a b : ℕ) (cell : ℕ → ℕ → ℕ) where
   abbrev pub Exact : ℕ → ℕ → ℕ → Type 0
   Exact x y k = Numbered pieces k x y (cell x y)
 
-  -- "c in P, c ≤ x/2, whose two cells add to V", and "the same with Q".
-  abbrev pub Across : ℕ → ℕ → ℕ → Type 0
-  Across x y = AddsUp (P (Lays pieces) a) (λ c. cell c y) x
+  -- What the cell of a part holds that is c long where the line crosses.
+  abbrev pub partCell : Bool → ℕ → ℕ → ℕ → ℕ
+  partCell tall x y c = cell (partWidth tall x c) (partHeight tall y c)
 
-  abbrev pub Up : ℕ → ℕ → ℕ → Type 0
-  Up x y = AddsUp (Q (Lays pieces) b) (λ d. cell x d) y
+  -- "c in P, c ≤ x/2, whose two cells add to V", and "the same with Q".
+  pub record AddsUp (tall : Bool) (x y c : ℕ) : Type 0 where
+    pub far : ℕ
+    pub tried : Tried (PointOf (Lays pieces) a b tall) (crossed tall x y) c far
+    pub sum : partCell tall x y c + partCell tall x y far ≡ cell x y
 
   -- "piece that fits with v = V": piece k is `width` by `height`.
   pub record Fitting (x y k : ℕ) : Type 0 where
@@ -55,11 +56,15 @@ module _ (pieces : List Piece) (a b : ℕ) (cell : ℕ → ℕ → ℕ) where
     -- "(2) Else the first piece of exactly this size with v = V."
     rule2 : {x y k : ℕ} → (cell x y ≡ 0 → ⊥) → Least (Exact x y) k → TreeBy x y (Tree.pieceP k)
     -- "(3) Else the least c in P, c ≤ x/2, whose two cells add to V: vertical line, both parts by these rules."
-    rule3 : {x y c : ℕ} {s t : Tree} → (cell x y ≡ 0 → ⊥) → None (Exact x y) → Least (Across x y) c → TreeBy c y s → TreeBy (rest x c) y t → TreeBy x y (Tree.lineV c s t)
+    rule3 : {x y c : ℕ} {s t : Tree} → (cell x y ≡ 0 → ⊥) → None (Exact x y) → Least (AddsUp false x y) c
+        → TreeBy c y s → TreeBy (rest x c) y t → TreeBy x y (Tree.line false c s t)
     -- "(4) Else the same with Q: horizontal line."
-    rule4 : {x y d : ℕ} {s t : Tree} → (cell x y ≡ 0 → ⊥) → None (Exact x y) → None (Across x y) → Least (Up x y) d → TreeBy x d s → TreeBy x (rest y d) t → TreeBy x y (Tree.lineH d s t)
+    rule4 : {x y d : ℕ} {s t : Tree} → (cell x y ≡ 0 → ⊥) → None (Exact x y) → None (AddsUp false x y) → Least (AddsUp true x y) d
+        → TreeBy x d s → TreeBy x (rest y d) t → TreeBy x y (Tree.line true d s t)
     -- "(5) Else the first piece that fits with v = V: vertical line at p where p < x, in the left part a horizontal line at q where
     -- q < y, then the piece; the parts cut off are scrap."
-    rule5 : {x y k : ℕ} {s t : Tree} → (cell x y ≡ 0 → ⊥) → None (Exact x y) → None (Across x y) → None (Up x y) → (first : Least (Fitting x y) k) → Trimmed Tree.lineH (first .holds .height) y (Tree.pieceP k) s → Trimmed Tree.lineV (first .holds .width) x s t → TreeBy x y t
+    rule5 : {x y k : ℕ} {s t : Tree} → (cell x y ≡ 0 → ⊥) → None (Exact x y) → None (AddsUp false x y) → None (AddsUp true x y)
+        → (first : Least (Fitting x y) k)
+        → Trimmed true (first .holds .height) y (Tree.pieceP k) s → Trimmed false (first .holds .width) x s t → TreeBy x y t
 
 -- "(6) Else refusal 7.": there is no such tree.

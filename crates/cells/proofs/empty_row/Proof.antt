@@ -4,13 +4,13 @@ use mathlib.Core.Path.{_≡_, _∙_}
 use mathlib.Core.Logic.{inl}
 use native.Mathlib.Omega.{arith}
 use lib.ListN.{length}
-use Rattle.cells.specs.Inner.{emptiedWhere, block}
+use Rattle.cells.specs.Inner.{emptiedWhere, patch}
 use Rattle.cells.proofs.Sweep.{sweep-none, row-more, row-end}
 use Rattle.cells.proofs.empty_row.Statement.{statement}
 use Rattle.cells.proofs.empty_row.Tie as tie
 
 abbrev Inv-loop : tie.InvT-loop
-Inv-loop t₀ a p y x₀ t x = (p ≤ x) × (length t ≡ length t₀) × (t ≡ emptiedWhere a y (block p x y (y + 1)) t₀)
+Inv-loop t₀ a p y x₀ t x = (p ≤ x) × (length t ≡ length t₀) × (t ≡ emptiedWhere a y (patch p x y (y + 1)) t₀)
 
 abbrev μ-loop : tie.MeasureT-loop
 μ-loop t₀ a p y x₀ t x = a + 1 - x

@@ -4,14 +4,14 @@ use mathlib.Core.Path.{_≡_, _∙_}
 use mathlib.Core.Logic.{inr}
 use native.Mathlib.Omega.{arith}
 use lib.ListN.{length}
-use Rattle.cells.specs.Inner.{emptiedWhere, block}
+use Rattle.cells.specs.Inner.{emptiedWhere, patch}
 use Rattle.cells.proofs.Places.{holds-lower}
 use Rattle.cells.proofs.Sweep.{sweep-none, rows-more, rows-end}
 use Rattle.cells.proofs.empty_where_fits.Statement.{statement}
 use Rattle.cells.proofs.empty_where_fits.Tie as tie
 
 abbrev Inv-loop : tie.InvT-loop
-Inv-loop t₀ a b p q y₀ t y = (q ≤ y) × (length t ≡ length t₀) × (t ≡ emptiedWhere a b (block p (a + 1) q y) t₀)
+Inv-loop t₀ a b p q y₀ t y = (q ≤ y) × (length t ≡ length t₀) × (t ≡ emptiedWhere a b (patch p (a + 1) q y) t₀)
 
 abbrev μ-loop : tie.MeasureT-loop
 μ-loop t₀ a b p q y₀ t y = b + 1 - y

@@ -11,7 +11,12 @@ line-value-requires : tie.Need-line-value-requires
 line-value-requires c κs = around-lines _ _ _ _ (c .before .before .before .before .before .pre)
 
 returns-2 : tie.Need-returns-2
-returns-2 c = cell-worked _ _ _ _ _ _ _ (c .before .before .before .before .before .before .before .before .cell .ensures) (c .before .before .before .before .before .before .before .if1 .left) (c .before .before .before .before .before .line-value .ensures) (c .before .before .before .larger .ensures) (c .before .before .store .ensures)
+returns-2 c =
+    let at-store = c .before .before in
+    let at-line = at-store .before .before .before in
+    let at-if = at-line .before .before in
+    cell-worked _ _ _ _ _ _ _ (at-if .before .cell .ensures) (at-if .if1 .left)
+    (at-line .line-value .ensures) (at-store .before .larger .ensures) (at-store .store .ensures)
 
 pub fill-cell-spec : {M : Type 1} → statement M
 fill-cell-spec = tie.close (tie.spec (λ c κs. search needs) (λ c. search needs) returns line-value-requires (λ c κs. search needs) (λ c κs. search needs) (λ c. search needs) returns-2)

@@ -4,18 +4,18 @@ use mathlib.Core.Path.{_≡_, refl}
 use native.Mathlib.Omega.{arith}
 use lib.ListN.{length}
 use Rattle.cells.specs.Box.{isEmpty, countInRow}
-use Rattle.points.specs.Inner.{rowsOf}
-use Rattle.fill.specs.Inner.{filled}
+use Rattle.board.specs.Inner.{widthOn, rowsOn}
+use Rattle.fill.specs.Inner.{filledOn}
 use Rattle.fill.proofs.Rounds.{entered, entered-count, lines-up, row-around, row-more, row-count, row-within}
 use Rattle.fill.proofs.fill_columns.Statement.{statement}
 use Rattle.fill.proofs.fill_columns.Tie as tie
 
 abbrev Inv-loop : tie.InvT-loop
-Inv-loop t₀ a b from x w n widths heights values across up floor worked₀ i₀ t worked i =
-    (i ≤ x) × (from ≤ i + 1) × (length t ≡ length t₀) × (t ≡ filled (rowsOf n widths heights values across up) a b i w t₀) × (worked ≡ countInRow i w (isEmpty a t₀))
+Inv-loop t₀ board from x w floor worked₀ i₀ t worked i =
+    (i ≤ x) × (from ≤ i + 1) × (length t ≡ length t₀) × (t ≡ filledOn board i w t₀) × (worked ≡ countInRow i w (isEmpty (widthOn board) t₀))
 
 abbrev μ-loop : tie.MeasureT-loop
-μ-loop t₀ a b from x w n widths heights values across up floor worked₀ i₀ t worked i = x - i
+μ-loop t₀ board from x w floor worked₀ i₀ t worked i = x - i
 
 floor-of-requires : tie.Need-floor-of-requires Inv-loop μ-loop
 floor-of-requires c κs = (lines-up _ _ _ _ _ _ _ (c .before .before .pre .0) (c .before .before .pre .1 .0), c .before .before .pre .1 .1)
@@ -30,16 +30,25 @@ fill-cell-requires c κs = row-around _ _ _ _ _ _ (c .before .before .before .be
 
 add-worked : tie.Need-add-worked Inv-loop μ-loop
 add-worked c =
-    let inv = c .before .before .before .before .before .loop .inv in
-    omega (arith, row-within _ _ _ _ _ _ (c .before .before .before .before .before .before .before .before .before .pre .0) _ (omega arith) (inv .3) (inv .4) (c .before .before .fill-cell .ensures .0))
+    let head = c .before .before .before .before .before in
+    let inv = head .loop .inv in
+    let ready = head .before .before .before .before .pre .0 in
+    omega (arith, row-within _ _ _ _ _ _ ready _ (omega arith) (inv .3) (inv .4) (c .before .before .fill-cell .ensures .0))
 
 loop-again : tie.Need-loop-again Inv-loop μ-loop
-unfolding rowsOf
+unfolding rowsOn
 loop-again c =
-    let inv = c .before .before .before .before .before .loop .inv in
-    let ready = c .before .before .before .before .before .before .before .before .before .pre .0 in
-    let floor = c .before .before .before .before .before .before .floor-of .ensures .at _ (inv .1) (omega arith) in
-    (omega arith, omega arith, omega arith, row-more _ _ _ _ _ _ ready _ (omega arith) (inv .3) floor (c .before .before .fill-cell .ensures .1), row-count _ _ _ _ _ _ ready _ (omega arith) (inv .3) (inv .4) (c .before .before .fill-cell .ensures .0))
+    let head = c .before .before .before .before .before in
+    let inv = head .loop .inv in
+    let ready = head .before .before .before .before .pre .0 in
+    let floor = head .before .floor-of .ensures .at _ (inv .1) (omega arith) in
+    let cell = c .before .before .fill-cell .ensures in (
+      omega arith,
+      omega arith,
+      omega arith,
+      row-more _ _ _ _ _ _ ready _ (omega arith) (inv .3) floor (cell .1),
+      row-count _ _ _ _ _ _ ready _ (omega arith) (inv .3) (inv .4) (cell .0),
+    )
 
 returns : tie.Need-returns Inv-loop μ-loop
 returns c =

@@ -1,16 +1,17 @@
 -- `first_empty`: no cell before column i + 1 is empty.
 use Prim.Native.Nat.{_+_, _≤_, _-_}
 use native.Mathlib.Omega.{arith}
+use Rattle.board.specs.Inner.{widthOn}
 use Rattle.fill.specs.Inner.{FullBefore}
 use Rattle.fill.proofs.Rounds.{before-none, before-more, row-cells}
 use Rattle.fill.proofs.first_empty.Statement.{statement}
 use Rattle.fill.proofs.first_empty.Tie as tie
 
 abbrev Inv-loop : tie.InvT-loop
-Inv-loop t a x w i₀ i = (i ≤ x) × FullBefore a t x w (i + 1)
+Inv-loop t board x w i₀ i = (i ≤ x) × FullBefore (widthOn board) t x w (i + 1)
 
 abbrev μ-loop : tie.MeasureT-loop
-μ-loop t a x w i₀ i = x - i
+μ-loop t board x w i₀ i = x - i
 
 loop-holds : tie.Need-loop-holds Inv-loop μ-loop
 loop-holds c = (omega arith, before-none _ _ _ _)

@@ -9,7 +9,9 @@ use Rattle.khonvertseg.proofs.khon_check.Tie as tie
 -- src/lib.rt:145:1
 returns : tie.Need-returns
 returns c =
-    record { answer = _; keeps = given-exactly (c .before .before .before .args .file .now) (λ k. omega (arith, c .before .before .shared-slice-known .given k)) _ .0 (sym (c .before .check .ensures)); laid = c .flat-checked .ensures }
+    let at-known = c .before .before in
+    let given = given-exactly (at-known .before .args .file .now) (λ k. omega (arith, at-known .shared-slice-known .given k)) _ in
+    record { answer = _; keeps = given .0 (sym (c .before .check .ensures)); laid = c .flat-checked .ensures }
 
 pub khon-check-spec : {M : Type 1} → statement M
 khon-check-spec = tie.close (tie.spec (λ c κs. search needs) (λ c κs. search needs) returns)

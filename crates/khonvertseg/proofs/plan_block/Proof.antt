@@ -10,7 +10,8 @@ returns c = block-refused _ (c .before .before .from-block .ensures) (c .if1 .ta
 
 returns-2 : tie.Need-returns-2
 returns-2 c =
-    block-given _ (c .before .before .before .before .before .before .before .from-block .ensures) (c .before .before .before .before .before .if1 .left) (plan-exactly _ _ _ _ _ .0 (c .before .before .plan .ensures))
+    let at-if = c .before .before .before .before .before in
+    block-given _ (at-if .before .before .from-block .ensures) (at-if .if1 .left) (plan-exactly _ _ _ _ _ .0 (c .before .before .plan .ensures))
 
 pub plan-block-spec : {M : Type 1} → statement M
 plan-block-spec = tie.close (tie.spec (λ c κs. search needs) returns (λ c κs. search needs) (λ c. search needs) returns-2)

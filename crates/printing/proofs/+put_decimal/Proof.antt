@@ -113,7 +113,9 @@ put-decimal-returns-2 : (t : ℕ) → put-decimal-lts.Need-returns-2 (
   put-decimal.Post,
 ) (put-decimal-at t) put-decimal.Post
 put-decimal-returns-2 t c =
-    printed-digits _ (omega arith) (c .before .before .before .digit2 .ensures) (c .before .before .before .before .before .before .before .put-decimal .ensures) (c .before .before .put-byte2 .ensures)
+    let at-byte = c .before .before in
+    let at-digit = at-byte .before in
+    printed-digits _ (omega arith) (at-digit .digit2 .ensures) (at-digit .before .before .before .before .put-decimal .ensures) (at-byte .put-byte2 .ensures)
 
 pub +put-decimal-spec : {M : Type 1} → statement M
 +put-decimal-spec = close μ-put-decimal λ t. put-decimal-lts.spec (digit-reads.Asked, digit-reads.Learnt, put-byte-reads.Asked, put-byte-reads.Learnt, put-decimal-below t, put-decimal.Post) (put-decimal-at t) put-decimal.Post (put-decimal-digit-requires t) (put-decimal-put-byte-requires t) (put-decimal-same-length t) (put-decimal-returns t) (put-decimal-put-decimal-requires t) (put-decimal-digit-requires-2 t) (put-decimal-put-byte-requires-2 t) (put-decimal-same-length-2 t) (put-decimal-returns-2 t)

@@ -19,8 +19,9 @@ loop-holds c = (omega arith, printed-nothing _ _)
 
 loop-again : tie.Need-loop-again Inv-loop μ-loop
 loop-again c =
-    let h : c .before .before .before .before .before .before .loop .i < length (c .before .before .before .before .before .before .before .before .before .args .word .now) = omega arith in
-    (omega arith, printed-more _ _ h (c .before .before .before .before .before .before .loop .inv .1) (c .before .before .put-byte .ensures))
+    let at-loop = c .before .before .before .before .before .before in
+    let h : at-loop .loop .i < length (at-loop .before .before .before .args .word .now) = omega arith in
+    (omega arith, printed-more _ _ h (at-loop .loop .inv .1) (c .before .before .put-byte .ensures))
 
 same-length : tie.Need-same-length Inv-loop μ-loop
 same-length c = printed-length (c .before .loop .inv .1)

@@ -11,10 +11,9 @@ use Rattle.program.proofs.run.Tie as tie
 
 returns : tie.Need-returns
 returns c =
-    kept _ (omega arith)
-    (printed-as
-    (block-refused-text _ (c .before .before .before .before .before .from-block .ensures) (c .before .before .before .if1 .taken) (c .before .widened .ensures))
-    (c .put-refused .ensures))
+    let at-if = c .before .before .before in
+    let text = block-refused-text _ (at-if .before .before .from-block .ensures) (at-if .if1 .taken) (c .before .widened .ensures) in
+    kept _ (omega arith) (printed-as text (c .put-refused .ensures))
 
 enter-requires : tie.Need-enter-requires
 enter-requires c κs = block-few _ (c .before .before .before .before .from-block .ensures)
@@ -23,10 +22,10 @@ returns-2 : tie.Need-returns-2
 unfolding newTable
 returns-2 c =
     let at-enter = c .before .before .before .before .before in
-    kept _ (omega arith)
-    (printed-as
-    (block-text _ (at-enter .before .before .before .before .before .from-block .ensures) (at-enter .before .before .before .if1 .left) (at-enter .enter .ensures .0) (at-enter .enter .ensures .1) refl)
-    (c .before .print-entered .ensures))
+    let at-if = at-enter .before .before .before in
+    let entered = at-enter .enter .ensures in
+    let text = block-text _ (at-if .before .before .from-block .ensures) (at-if .if1 .left) (entered .0) (entered .1) refl in
+    kept _ (omega arith) (printed-as text (c .before .print-entered .ensures))
 
 pub run-spec : {M : Type 1} → statement M
 run-spec = tie.close (tie.spec (λ c κs. search needs) (λ c κs. search needs) (λ c κs. search needs) returns (λ c. search needs) enter-requires (λ c. search needs) (λ c κs. search needs) returns-2)

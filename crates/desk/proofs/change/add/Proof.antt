@@ -21,7 +21,10 @@ empty-size-requires c κs =
 
 returns-2 : tie.Need-returns-2
 unfolding addedJob addedCells
-returns-2 c = change-given _ _ (c .before .before .before .before .before .before .add-refused .ensures) (c .before .before .before .before .before .if1 .left) (c .before .before .before .before .with-added .ensures) (c .before .before .empty-size .ensures)
+returns-2 c =
+    let at-new = c .before .before .before .before in
+    let first = at-new .before in
+    change-given _ _ (first .before .add-refused .ensures) (first .if1 .left) (at-new .with-added .ensures) (c .before .before .empty-size .ensures)
 
 pub add-spec : {M : Type 1} → statement M
 add-spec = tie.close (tie.spec (λ c κs. search needs) (λ c. search needs) returns with-added-requires empty-size-requires (λ c. search needs) returns-2)

@@ -29,15 +29,22 @@ empty-size-requires c κs =
 
 empty-size-requires-2 : tie.Need-empty-size-requires-2
 empty-size-requires-2 c κs =
-    let g = correct-granted _ _ _ _ (c .before .before .before .before .before .before .before .before .correct-refused .ensures) (c .before .before .before .before .before .before .before .if1 .left) in
-    (usable-still _ _ _ (c .before .before .before .empty-size .ensures) (g .usable), (g .range .widthLeast, g .range .heightLeast))
+    let at-size = c .before .before .before in
+    let first = at-size .before .before .before .before in
+    let g = correct-granted _ _ _ _ (first .before .correct-refused .ensures) (first .if1 .left) in
+    (usable-still _ _ _ (at-size .empty-size .ensures) (g .usable), (g .range .widthLeast, g .range .heightLeast))
 
 returns-2 : tie.Need-returns-2
 unfolding correctedJob correctedCells
 returns-2 c =
-    let g = correct-granted _ _ _ _ (c .before .before .before .before .before .before .before .before .before .before .before .correct-refused .ensures) (c .before .before .before .before .before .before .before .before .before .before .if1 .left) in
-    change-given _ _ (c .before .before .before .before .before .before .before .before .before .before .before .correct-refused .ensures) (c .before .before .before .before .before .before .before .before .before .before .if1 .left) (c .before .before .before .before .before .before .before .before .before .with-corrected .ensures)
-    (emptied-both _ _ _ _ (g .usable) (c .before .before .before .before .before .before .empty-size .ensures ∙ ap (λ r. emptiedSize (c .before .before .before .before .before .before .before .before .before .before .before .before .before .before .args .job) r (c .before .before .before .before .before .before .before .before .before .before .before .before .before .before .args .t .now)) (c .before .before .before .before .before .before .before .piece-of .ensures)) (c .before .before .empty-size2 .ensures))
+    let at-size = c .before .before .before .before .before .before in
+    let at-new = at-size .before .before .before in
+    let first = at-new .before in
+    let start = first .before .before .before .before .args in
+    let g = correct-granted _ _ _ _ (first .before .correct-refused .ensures) (first .if1 .left) in
+    let emptied = at-size .empty-size .ensures ∙ ap (λ r. emptiedSize (start .job) r (start .t .now)) (at-size .before .piece-of .ensures) in
+    change-given _ _ (first .before .correct-refused .ensures) (first .if1 .left) (at-new .with-corrected .ensures)
+    (emptied-both _ _ _ _ (g .usable) emptied (c .before .before .empty-size2 .ensures))
 
 pub correct-spec : {M : Type 1} → statement M
 correct-spec = tie.close (tie.spec (λ c κs. search needs) (λ c. search needs) returns with-corrected-requires piece-of-requires empty-size-requires empty-size-requires-2 (λ c. search needs) returns-2)

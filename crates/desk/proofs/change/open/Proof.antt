@@ -22,7 +22,10 @@ empty-where-fits-requires c κs = (open-granted _ _ _ (c .before .before .before
 
 returns-2 : tie.Need-returns-2
 unfolding opened openedCells
-returns-2 c = change-given _ _ (c .before .before .before .before .before .before .open-refused .ensures) (c .before .before .before .before .before .if1 .left) (c .before .before .before .before .new .ensures) (c .before .before .empty-where-fits .ensures)
+returns-2 c =
+    let at-new = c .before .before .before .before in
+    let first = at-new .before in
+    change-given _ _ (first .before .open-refused .ensures) (first .if1 .left) (at-new .new .ensures) (c .before .before .empty-where-fits .ensures)
 
 pub open-spec : {M : Type 1} → statement M
 open-spec = tie.close (tie.spec (λ c κs. search needs) (λ c κs. search needs) (λ c. search needs) returns cast-new cast-new-2 (λ c κs. search needs) empty-where-fits-requires (λ c. search needs) returns-2)

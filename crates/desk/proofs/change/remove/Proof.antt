@@ -29,7 +29,13 @@ empty-size-requires c κs =
 
 returns-2 : tie.Need-returns-2
 unfolding removedJob removedCells
-returns-2 c = change-given _ _ (c .before .before .before .before .before .before .before .remove-refused .ensures) (c .before .before .before .before .before .before .if1 .left) (c .before .before .before .before .before .with-removed .ensures) (c .before .before .empty-size .ensures ∙ ap (λ r. emptiedSize (c .before .before .before .before .before .before .before .before .before .before .args .job) r (c .before .before .before .before .before .before .before .before .before .before .args .t .now)) (c .before .before .before .piece-of .ensures))
+returns-2 c =
+    let at-size = c .before .before in
+    let at-new = at-size .before .before .before in
+    let first = at-new .before in
+    let start = first .before .before .before .before .args in
+    change-given _ _ (first .before .remove-refused .ensures) (first .if1 .left) (at-new .with-removed .ensures)
+    (at-size .empty-size .ensures ∙ ap (λ r. emptiedSize (start .job) r (start .t .now)) (at-size .before .piece-of .ensures))
 
 pub remove-spec : {M : Type 1} → statement M
 remove-spec = tie.close (tie.spec (λ c κs. search needs) (λ c. search needs) returns with-removed-requires piece-of-requires empty-size-requires (λ c. search needs) returns-2)

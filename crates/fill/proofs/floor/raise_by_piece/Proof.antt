@@ -8,10 +8,14 @@ use Rattle.fill.proofs.floor.raise_by_piece.Statement.{statement}
 use Rattle.fill.proofs.floor.raise_by_piece.Tie as tie
 
 returns : tie.Need-returns
-returns c = piece-high _ _ _ _ _ _ _ (c .before .before .before .later .ensures ∙ ap (λ (m : ℕ). max m (c .before .before .before .before .before .before .before .before .before .args .from)) (c .before .before .before .before .wide2 .ensures)) (omega arith) (c .before .before .raise-to .ensures)
+returns c =
+    let at-later = c .before .before .before .before in
+    let start = at-later .before .before .before .before .before .before in
+    piece-high _ _ _ _ _ _ _ (at-later .later .ensures ∙ ap (λ (m : ℕ). max m (start .args .from)) (at-later .before .wide2 .ensures .0))
+    (c .before .before .before .long .ensures) (omega arith) (c .before .before .raise-to .ensures)
 
 returns-2 : tie.Need-returns-2
 returns-2 c = piece-low _ _ _ _ _ _ _ (omega arith)
 
 pub raise-by-piece-spec : {M : Type 1} → statement M
-raise-by-piece-spec = tie.close (tie.spec (λ c κs. search needs) (λ c κs. search needs) (λ c κs. search needs) (λ c κs. search needs) (λ c. search needs) returns returns-2)
+raise-by-piece-spec = tie.close (tie.spec (λ c κs. search needs) (λ c κs. search needs) (λ c κs. search needs) (λ c κs. search needs) (λ c κs. search needs) (λ c. search needs) returns returns-2)

@@ -3,17 +3,17 @@ use Prim.Native.Nat.{_≤_, _-_}
 use mathlib.Core.Bool.{false}
 use mathlib.Core.Path.{_≡_}
 use native.Mathlib.Omega.{arith}
-use lib.ListN.{getD}
-use Rattle.cells.specs.Cells.{cellOf}
+use Rattle.board.specs.Inner.{markedAt}
+use Rattle.fill.specs.Inner.{cellOn}
 use Rattle.fill.proofs.Steps.{linesUpTo, lines-none, lines-more, lines-end}
 use Rattle.fill.proofs.value.line_value.Statement.{statement}
 use Rattle.fill.proofs.value.line_value.Tie as tie
 
 abbrev Inv-loop : tie.InvT-loop
-Inv-loop t a w x marks half best₀ c₀ best c = (c ≤ half) × (best ≡ linesUpTo (λ k. getD marks k false) (λ k. cellOf a t k w) x c)
+Inv-loop t board w x half best₀ c₀ best c = (c ≤ half) × (best ≡ linesUpTo (markedAt board false) (λ k. cellOn board t k w) x c)
 
 abbrev μ-loop : tie.MeasureT-loop
-μ-loop t a w x marks half best₀ c₀ best c = half - c
+μ-loop t board w x half best₀ c₀ best c = half - c
 
 loop-holds : tie.Need-loop-holds Inv-loop μ-loop
 loop-holds c = (omega arith, lines-none _ _ _)

@@ -21,7 +21,10 @@ unfolding addedAll
 loop-holds c = (omega arith, refl, (refl, refl))
 
 loop-again : tie.Need-loop-again Inv-loop μ-loop
-loop-again c = (omega arith, c .before .before .add-next .kept .1 .0 ∙ c .before .before .before .before .before .before .loop .inv .1, added-more _ _ _ _ (c .before .before .before .before .before .before .loop .inv .2 .0) (c .before .before .before .before .before .before .loop .inv .2 .1) (c .before .before .add-next .ensures .0) (c .before .before .add-next .ensures .1))
+loop-again c =
+    let next = c .before .before .add-next in
+    let inv = c .before .before .before .before .before .before .loop .inv in
+    (omega arith, next .kept .1 .0 ∙ inv .1, added-more _ _ _ _ (inv .2 .0) (inv .2 .1) (next .ensures .0) (next .ensures .1))
 
 same-length : tie.Need-same-length Inv-loop μ-loop
 same-length c = c .before .loop .inv .1

@@ -12,7 +12,10 @@ returns c = (left-as-it-was _ _ refl (c .if1 .taken), left-as-it-was _ _ refl (c
 
 returns-2 : tie.Need-returns-2
 unfolding addedTo addedToCells
-returns-2 c = (c .before .before .add .ensures .0 ∙ given _ _ refl (c .before .before .before .before .before .if1 .left), c .before .before .add .ensures .1 ∙ given _ _ refl (c .before .before .before .before .before .if1 .left))
+returns-2 c =
+    let at-add = c .before .before in
+    let left = at-add .before .before .before .if1 .left in
+    (at-add .add .ensures .0 ∙ given _ _ refl left, at-add .add .ensures .1 ∙ given _ _ refl left)
 
 pub add-next-spec : {M : Type 1} → statement M
 add-next-spec = tie.close (tie.spec returns (λ c κs. search needs) (λ c. search needs) returns-2)

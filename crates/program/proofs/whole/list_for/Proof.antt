@@ -1,17 +1,24 @@
 -- `list_for` meets its contract.
-use Rattle.desk.proofs.Granted.{rows-are}
-use Rattle.checker.proofs.Stages.{rows-of}
-use Rattle.printing.proofs.Printed.{printed-as}
-use Rattle.program.proofs.Lines.{whole-ready, whole-listable, whole-lines}
+use Rattle.program.proofs.Lines.{may-list, lists-plan}
 use borrow.Author.Needs.{needs}
 use Rattle.program.proofs.whole.list_for.Statement.{statement}
 use Rattle.program.proofs.whole.list_for.Tie as tie
 
 list-requires : tie.Need-list-requires
-list-requires c κs = (whole-ready _ _ (c .before .before .before .before .before .before .before .before .before .before .before .before .before .before .before .wide .ensures) (c .before .before .before .before .before .before .before .before .before .before .before .before .before .before .wide2 .ensures) (c .before .before .before .before .before .before .before .before .before .before .before .before .before .before .before .before .before .before .pre .0) (c .before .before .before .before .before .before .before .before .before .before .before .before .before .wide3 .ensures), whole-listable _ _ (c .before .before .before .before .before .before .before .before .before .before .before .before .before .before .before .wide .ensures) (c .before .before .before .before .before .before .before .before .before .before .before .before .before .before .wide2 .ensures) (rows-are _ (c .before .before .before .before .before .before .before .before .before .before .before .before .before .wide3 .ensures) (c .before .before .before .before .before .before .before .before .before .before .before .before .before .before .before .wide .ensures) (c .before .before .before .before .before .before .before .before .before .before .before .before .before .before .wide2 .ensures) (c .before .before .before .before .before .before .before .before .before .before .before .before .row .ensures) (c .before .before .before .before .before .before .before .before .before .before .before .row2 .ensures) (c .before .before .before .before .before .before .before .before .before .before .row3 .ensures) (c .before .before .before .before .before .before .before .before .marks .ensures) (c .before .before .before .before .before .before .marks2 .ensures)) (rows-of _ (c .before .before .before .before .before .before .before .before .before .before .before .before .before .before .before .before .before .before .pre .0 .usable .range .countMost) (c .before .before .before .before .before .before .before .before .before .before .before .before .row .ensures) (c .before .before .before .before .before .before .before .before .before .before .before .row2 .ensures) (c .before .before .before .before .before .before .before .before .before .before .row3 .ensures) (c .before .before .before .before .before .before .before .before .before .before .before .before .before .wide3 .ensures)) (c .before .before .before .before .before .before .before .before .before .before .before .before .before .before .before .before .before .before .pre .0) (c .before .before .before .before .before .before .before .before .before .before .before .before .before .before .before .before .before .before .pre .1))
+list-requires c κs =
+    let at-length = c .before .before .before .before in
+    let at-set = at-length .before .before in
+    may-list _ (at-set .set-pieces .ensures) (at-length .before .wide .ensures .0) (at-length .block-length .ensures)
+    (c .before .before .before .wide2 .ensures .0) (c .before .before .wide3 .ensures .0) (at-set .before .before .before .before .pre)
 
 returns : tie.Need-returns
-returns c = printed-as (whole-lines _ _ (c .before .before .before .before .before .before .before .before .before .before .before .before .before .before .before .before .before .before .wide .ensures) (c .before .before .before .before .before .before .before .before .before .before .before .before .before .before .before .before .before .wide2 .ensures) (rows-are _ (c .before .before .before .before .before .before .before .before .before .before .before .before .before .before .before .before .wide3 .ensures) (c .before .before .before .before .before .before .before .before .before .before .before .before .before .before .before .before .before .before .wide .ensures) (c .before .before .before .before .before .before .before .before .before .before .before .before .before .before .before .before .before .wide2 .ensures) (c .before .before .before .before .before .before .before .before .before .before .before .before .before .before .before .row .ensures) (c .before .before .before .before .before .before .before .before .before .before .before .before .before .before .row2 .ensures) (c .before .before .before .before .before .before .before .before .before .before .before .before .before .row3 .ensures) (c .before .before .before .before .before .before .before .before .before .before .before .marks .ensures) (c .before .before .before .before .before .before .before .before .before .marks2 .ensures)) (rows-of _ (c .before .before .before .before .before .before .before .before .before .before .before .before .before .before .before .before .before .before .before .before .before .pre .0 .usable .range .countMost) (c .before .before .before .before .before .before .before .before .before .before .before .before .before .before .before .row .ensures) (c .before .before .before .before .before .before .before .before .before .before .before .before .before .before .row2 .ensures) (c .before .before .before .before .before .before .before .before .before .before .before .before .before .row3 .ensures) (c .before .before .before .before .before .before .before .before .before .before .before .before .before .before .before .before .wide3 .ensures))) (c .before .before .list .ensures)
+returns c =
+    let at-list = c .before .before in
+    let at-length = at-list .before .before .before .before .before in
+    let at-set = at-length .before .before in
+    lists-plan _ (at-set .set-pieces .ensures) (at-length .before .wide .ensures .0) (at-length .block-length .ensures)
+    (at-list .before .before .before .before .wide2 .ensures .0) (at-list .before .before .before .wide3 .ensures .0)
+    (at-set .before .before .before .before .pre) (at-list .list .ensures)
 
 pub list-for-spec : {M : Type 1} → statement M
-list-for-spec = tie.close (tie.spec (λ c κs. search needs) (λ c κs. search needs) (λ c κs. search needs) (λ c κs. search needs) (λ c κs. search needs) (λ c κs. search needs) (λ c κs. search needs) (λ c κs. search needs) list-requires (λ c. search needs) returns)
+list-for-spec = tie.close (tie.spec (λ c κs. search needs) (λ c κs. search needs) (λ c κs. search needs) (λ c κs. search needs) (λ c κs. search needs) list-requires (λ c. search needs) returns)

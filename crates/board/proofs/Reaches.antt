@@ -1,0 +1,186 @@
+-- `reaches` is true exactly of the sums of one or more sizes, repeats allowed.
+use Prim.Native.Nat.{ℕ, zero, suc, _+_, _-_, _≤_, _<_}
+use mathlib.Core.Bool.{Bool, true, false, _&&_, _||_}
+use mathlib.Core.Path.{_≡_, refl, sym, ap, _∙_}
+use mathlib.Core.List.{List, [], _∷_, _++_}
+use mathlib.Core.Logic.{_⊎_, inl, inr, ⊎-elim}
+use native.Mathlib.Omega.{arith}
+use native.Mathlib.Nat.{eq-or-lt-of-le}
+use lib.Dec.{ltb, eqb}
+use lib.ListN.{length, getD, length-append, List·getD-eq-default, List·getD-append}
+use lib.Seq.{getD-at}
+use Rattle.laws.specs.Inner.{Says}
+use Rattle.laws.proofs.Says.{true≢false, says-no, says-iff, says-lt, says-eq, says-and, says-or}
+use Rattle.laws.proofs.Below.{anyBelow-none, anyBelow-more, anyBelow-says, anyBelow-same}
+use Rattle.laws.proofs.Order.{le-or-lt}
+use Rattle.cutting.specs.Points.{Sum, one, more}
+use Rattle.board.specs.Inner.{Size, makes, someMakes, reachesUpTo, reaches}
+
+-- A smaller size asks for what it leaves of c, and any other is c or makes nothing.
+pub makes-smaller : (made : ℕ → Bool) (s c : ℕ) → s < c → makes made s c ≡ made (c - s)
+unfolding makes
+makes-smaller made s c h = rw (says-no (says-eq s c) (λ e. omega arith), says-lt s c .found h)
+
+pub makes-alone : (made : ℕ → Bool) (s c : ℕ) → c ≤ s → makes made s c ≡ eqb s c
+unfolding makes
+makes-alone made s c h = rw (says-no (says-lt s c) (λ l. omega arith)) (or-false (eqb s c))
+  where
+    or-false : (b : Bool) → b || false ≡ b
+    or-false true = refl
+    or-false false = refl
+
+-- A size makes c from what is made up to c: two tests that agree there are one.
+pub makes-same : (made other : ℕ → Bool) (s c : ℕ) → ((m : ℕ) → m ≤ c → made m ≡ other m) → makes made s c ≡ makes other s c
+unfolding makes
+makes-same made other s c h = ap (λ (b : Bool). eqb s c || (ltb s c && b)) (h (c - s) (omega arith))
+
+pub someMakes-same : (made other : ℕ → Bool) (size : ℕ → ℕ) (n c : ℕ) → ((m : ℕ) → m ≤ c → made m ≡ other m)
+    → someMakes made size n c ≡ someMakes other size n c
+unfolding someMakes
+someMakes-same made other size n c h = anyBelow-same _ _ n (λ k b. makes-same made other (size k) c h)
+
+-- Only the first n sizes count.
+pub someMakes-sizes : (made : ℕ → Bool) (size other : ℕ → ℕ) (n c : ℕ) → ((k : ℕ) → k < n → size k ≡ other k)
+    → someMakes made size n c ≡ someMakes made other n c
+unfolding someMakes
+someMakes-sizes made size other n c h = anyBelow-same _ _ n (λ k b. ap (λ (s : ℕ). makes made s c) (h k b))
+
+-- What a size makes, known by an answer that was given of it when it was read.
+pub makes-read : (made : ℕ → Bool) (c : ℕ) {s read : ℕ} {answer b : Bool} → read ≡ s → answer ≡ makes made read c → answer ≡ b → makes made s c ≡ b
+makes-read made c e h t = cc
+
+pub someMakes-none : (made : ℕ → Bool) (size : ℕ → ℕ) (c : ℕ) → someMakes made size 0 c ≡ false
+unfolding someMakes
+someMakes-none made size c = anyBelow-none (λ k. makes made (size k) c)
+
+-- The code's n + 1.
+pub someMakes-more : (made : ℕ → Bool) (size : ℕ → ℕ) (n c : ℕ) → someMakes made size n c ≡ false → makes made (size n) c ≡ false
+    → someMakes made size (n + 1) c ≡ false
+unfolding someMakes
+someMakes-more made size n c e h = anyBelow-more (λ k. makes made (size k) c) n ∙ rw (e, h)
+
+-- "Zero belongs to neither."
+pub reaches-zero : (size : ℕ → ℕ) (n : ℕ) → reaches size n 0 ≡ false
+unfolding reaches reachesUpTo
+reaches-zero size n = refl
+
+pub reaches-least : (size : ℕ → ℕ) (n c : ℕ) → reaches size n c ≡ true → 1 ≤ c
+reaches-least size n zero e = absurd (true≢false (sym e ∙ reaches-zero size n))
+reaches-least size n (suc c) e = omega arith
+
+module _ (size : ℕ → ℕ) (n : ℕ) where
+  upTo-length : (c : ℕ) → length (reachesUpTo size n c) ≡ suc c
+  unfolding reachesUpTo
+  upTo-length zero = refl
+  upTo-length (suc c) = simp length-append (omega (arith, upTo-length c))
+
+  upTo-at : (c m : ℕ) → m ≤ c → getD (reachesUpTo size n c) m false ≡ reaches size n m
+  unfolding reachesUpTo
+  upTo-at zero m h = let e : m ≡ 0 = omega arith in rw e (unfold reaches in refl)
+  upTo-at (suc c) m h = ⊎-elim (here m) (earlier m (upTo-at c m)) (eq-or-lt-of-le h)
+    where
+      here : (m : ℕ) → m ≡ suc c → getD (reachesUpTo size n (suc c)) m false ≡ reaches size n m
+      here m e = rw e (unfold reaches in refl)
+
+      earlier : (m : ℕ) → (m ≤ c → getD (reachesUpTo size n c) m false ≡ reaches size n m) → m < suc c
+          → getD (reachesUpTo size n (suc c)) m false ≡ reaches size n m
+      earlier m same l =
+          let inside : m < length (reachesUpTo size n c) = omega (arith, upTo-length c) in
+          rw List·getD-append (same (omega arith))
+
+  upTo-past : (c m : ℕ) → c < m → getD (reachesUpTo size n c) m false ≡ false
+  upTo-past c m h = List·getD-eq-default (reachesUpTo size n c) false {n = m} (omega (arith, upTo-length c))
+
+  upTo-next : (c : ℕ) → reaches size n (suc c) ≡ someMakes (λ m. getD (reachesUpTo size n c) m false) size n (suc c)
+  unfolding reaches reachesUpTo
+  upTo-next c = getD-at (reachesUpTo size n c) _ [] false (suc c) (upTo-length c)
+
+  -- One number more, from any marks that are right up to c and not set at the next.
+  pub reaches-next : (made : ℕ → Bool) (c : ℕ) → ((m : ℕ) → m ≤ c → made m ≡ reaches size n m) → made (suc c) ≡ false
+      → reaches size n (suc c) ≡ someMakes made size n (suc c)
+  reaches-next made c h e =
+      upTo-next c
+      ∙ someMakes-same
+      (λ m. getD (reachesUpTo size n c) m false)
+      made
+      size
+      n
+      (suc c)
+      (λ m l. ⊎-elim (λ q. upTo-past c m (omega arith) ∙ sym (ap made q ∙ e)) (λ b. upTo-at c m (omega arith) ∙ sym (h m (omega arith))) (eq-or-lt-of-le l))
+
+-- A size makes c exactly when it is c, or is smaller and what it leaves is made.
+pub makes-says : (made : ℕ → Bool) (s c : ℕ) → Says (makes made s c) ((s ≡ c) ⊎ ((s < c) × (made (c - s) ≡ true)))
+unfolding makes
+makes-says made s c = says-or (says-eq s c) (says-and (says-lt s c) (record { means = λ e. e; found = λ e. e }))
+
+pub someMakes-says : (made : ℕ → Bool) (size : ℕ → ℕ) (n c : ℕ) → Says (someMakes made size n c) ((k : ℕ) × (k < n) × (makes made (size k) c ≡ true))
+unfolding someMakes
+someMakes-says made size n c = anyBelow-says (λ k. makes made (size k) c) n
+
+-- Only the first n sizes count.
+module _ (size other : ℕ → ℕ) (n : ℕ) (same : (k : ℕ) → k < n → size k ≡ other k) where
+  upTo-sizes : (c : ℕ) → reachesUpTo size n c ≡ reachesUpTo other n c
+  unfolding reachesUpTo
+  upTo-sizes zero = refl
+  upTo-sizes (suc c) =
+      (λ i. upTo-sizes c i ++ (someMakes (λ m. getD (upTo-sizes c i) m false) size n (suc c) ∷ []))
+      ∙ ap (λ (b : Bool). reachesUpTo other n c ++ (b ∷ [])) (someMakes-sizes (λ m. getD (reachesUpTo other n c) m false) size other n (suc c) same)
+
+  pub reaches-sizes : (c : ℕ) → reaches size n c ≡ reaches other n c
+  unfolding reaches
+  reaches-sizes c = ap (λ (l : List Bool). getD l c false) (upTo-sizes c)
+
+-- How c is reached: by a size that is c, or by a size and a smaller number that is reached.
+pub data Reached (size : ℕ → ℕ) (n c : ℕ) : Type 0 where
+  alone : {k : ℕ} → k < n → size k ≡ c → Reached size n c
+  onTop : {k r : ℕ} → k < n → r < c → c ≡ size k + r → reaches size n r ≡ true → Reached size n c
+
+module _ (size : ℕ → ℕ) (n : ℕ) where
+  -- The tests up to c answer for no number beyond it.
+  upTo-says : (c m : ℕ) → Says (getD (reachesUpTo size n c) m false) ((m ≤ c) × (reaches size n m ≡ true))
+  upTo-says c m =
+      record {
+        means = λ e. ⊎-elim (λ l. (l, sym (upTo-at size n c m l) ∙ e)) (λ l. absurd (true≢false (sym e ∙ upTo-past size n c m l))) (le-or-lt m c);
+        found = λ h. upTo-at size n c m (h .0) ∙ h .1;
+      }
+
+  -- The own equation of `reaches`.
+  pub reaches-own : (c : ℕ) → 1 ≤ c → Says (reaches size n c) (Reached size n c)
+  reaches-own zero h = absurd (omega arith)
+  reaches-own (suc c) h = rw upTo-next (says-iff (means, found) (someMakes-says made size n (suc c)))
+    where
+      made : ℕ → Bool
+      made m = getD (reachesUpTo size n c) m false
+
+      means : (k : ℕ) × (k < n) × (makes made (size k) (suc c) ≡ true) → Reached size n (suc c)
+      means (k, b, e) =
+          ⊎-elim (alone b)
+          (λ t. let p = upTo-says c (suc c - size k) .means (t .1) in onTop {k = k} b (omega (arith, p .0)) (omega (arith, t .0)) (p .1))
+          (makes-says made (size k) (suc c) .means e)
+
+      found : Reached size n (suc c) → (k : ℕ) × (k < n) × (makes made (size k) (suc c) ≡ true)
+      found (alone {k} b e) = (k, b, makes-says made (size k) (suc c) .found (inl e))
+      found (onTop {k} {r} b l e t) =
+          let left : suc c - size k ≡ r = omega arith in
+          (k, b, makes-says made (size k) (suc c) .found (inr (omega (arith, reaches-least size n r t), rw left (upTo-says c r .found (omega arith, t)))))
+
+  reaches-sum : (most c : ℕ) → c ≤ most → reaches size n c ≡ true → Sum (Size size n) c
+  reaches-sum zero c h e = absurd (omega (arith, reaches-least size n c e))
+  reaches-sum (suc most) c h e = sum (reaches-own c (reaches-least size n c e) .means e) (λ r l. reaches-sum most r (omega arith))
+    where
+      sum : Reached size n c → ((r : ℕ) → r < c → reaches size n r ≡ true → Sum (Size size n) r) → Sum (Size size n) c
+      sum (alone {k} b q) smaller = one (record { index = k; among = b; equal = q })
+      sum (onTop {k} {r} b l q t) smaller = more (record { index = k; among = b; equal = refl }) (smaller r l t) q
+
+  sum-reaches : (c : ℕ) → Sum (Size size n) c → 1 ≤ c → reaches size n c ≡ true
+  sum-reaches c (one s) h = reaches-own c h .found (alone (s .among) (s .equal))
+  sum-reaches c (more {s} {r} z rest q) h = onTopOf (le-or-lt 1 s) (le-or-lt 1 r) (sum-reaches r rest)
+    where
+      onTopOf : (1 ≤ s) ⊎ (s < 1) → (1 ≤ r) ⊎ (r < 1) → (1 ≤ r → reaches size n r ≡ true) → reaches size n c ≡ true
+      onTopOf (inr none) y made = let e : c ≡ r = omega arith in rw e (made (omega arith))
+      onTopOf (inl some) (inr none) made = reaches-own c h .found (alone (z .among) (omega (arith, z .equal)))
+      onTopOf (inl some) (inl rest) made = reaches-own c h .found (onTop (z .among) (omega arith) (omega (arith, z .equal)) (made rest))
+
+  -- The test says "sums of one or more .., repeats allowed".
+  pub reaches-says : (c : ℕ) → 1 ≤ c → Says (reaches size n c) (Sum (Size size n) c)
+  reaches-says c h = record { means = reaches-sum c c (omega arith); found = λ s. sum-reaches c s h }

@@ -33,6 +33,12 @@
  * pointer isn't const. Rows lent to one call must not overlap. Nothing outside
  * the lent rows is read or written. The library can't check any of this.
  *
+ * STACK. No call takes more stack than KHON_STACK_PLAN, KHON_STACK_CHECK or
+ * KHON_STACK_OTHER names, whatever is lent: plan and check go down one level
+ * for each line inside another, 479 at most. What memcpy and memset take, or
+ * the linker at their first call, comes on top. tests/stack.c runs every call
+ * on a thread with that much.
+ *
  * REFUSALS. Every answer has a refusal number, 0 when the call is accepted.
  * A refused call changes nothing lent; its other numbers are 0, and the job
  * comes back as it was given (from khon_open: a job of zeros, which every
@@ -57,6 +63,12 @@ extern "C" {
 #define KHON_VALUE_MAX 65535  /* a piece's value */
 #define KHON_FILE_MIN 25      /* bytes of a plan file that is checked, least */
 #define KHON_FILE_MAX 1048576 /* and most, its note included */
+
+/* Bytes of stack that are enough: for khon_plan, for khon_check (a stranger's
+   file chooses its depth), and for every other call. */
+#define KHON_STACK_PLAN 73728
+#define KHON_STACK_CHECK 43008
+#define KHON_STACK_OTHER 6144
 
 /* A cell that isn't worked out. */
 #define KHON_EMPTY UINT32_C(4294967295)

@@ -9,6 +9,7 @@ use fields::format::DISTANCE_LEAST;
 use fields::format::FILE_LEAST;
 use fields::format::FILE_MOST;
 use fields::format::NODES_FIELD;
+use fields::format::SUM_LENGTH;
 use fields::format::TRAILER_LENGTH;
 use fields::format::VALUE_FIELD;
 use fields::number4;
@@ -18,6 +19,7 @@ use job::Job;
 use job::block::from_block;
 use nodes::PIECE_AREA;
 use nodes::SCRAP_AREA;
+use nodes::SUM_COUNT;
 use nodes::Sums;
 use nodes::VALUE;
 use nodes::read_part;
@@ -122,7 +124,7 @@ fn sum_agrees(file: &[u8]) -> bool
     ensures { λ r. ⌜ r ≡ sumAgrees (now (file .entry)) ⌝ }
 {
     let start = note_length(file);
-    let end = file.len() - 4;
+    let end = file.len() - SUM_LENGTH;
     sum_of(&file[start..end]) == number4(file, end)
 }
 
@@ -223,7 +225,7 @@ pub fn check(file: &[u8]) -> Checked
         return Checked::Refused(JOB_OUT_OF_RANGE);
     }
     let job = blocked.job;
-    let mut sums: Sums = [0; 3];
+    let mut sums: Sums = [0; SUM_COUNT];
     let next = read_nodes(file, job, &mut sums);
     judge(file, next, &sums)
 }

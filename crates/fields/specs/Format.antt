@@ -39,7 +39,7 @@ fileLeast = 25
 abbrev pub fileMost : ℕ
 fileMost = 1_048_576
 
--- "Last a trailer of 16 bytes that points back: D1 ..; D2 ..; the value; the sum (four bytes each)": where they stand in it.
+-- "Last a trailer of 16 bytes that points back: D1 ..; D2 ..; the value; the sum (four bytes each)": where they stand in it, and how long the sum is.
 abbrev pub trailerLength : ℕ
 trailerLength = 16
 
@@ -54,6 +54,9 @@ valueField = 8
 
 abbrev pub sumField : ℕ
 sumField = 12
+
+abbrev pub sumLength : ℕ
+sumLength = 4
 
 -- "D1 < 9": a head and a node at least.
 abbrev pub distanceLeast : ℕ

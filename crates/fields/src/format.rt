@@ -24,7 +24,7 @@ pub const FILE_LEAST: usize = 25;
 
 pub const FILE_MOST: usize = 1_048_576;
 
-// The trailer, and where its fields stand in it: D1, D2, the value, the sum.
+// The trailer, and where its fields stand in it: D1, D2, the value, the sum, and how long the sum is.
 pub const TRAILER_LENGTH: usize = 16;
 
 pub const BLOCK_FIELD: usize = 0;
@@ -34,6 +34,8 @@ pub const NODES_FIELD: usize = 4;
 pub const VALUE_FIELD: usize = 8;
 
 pub const SUM_FIELD: usize = 12;
+
+pub const SUM_LENGTH: usize = 4;
 
 // A head and a node.
 pub const DISTANCE_LEAST: usize = HEAD_BYTES + NODE_LENGTH;

@@ -18,6 +18,7 @@ use fields::cast::wide;
 use fields::cast::widened;
 use fields::format::NODE_LENGTH;
 use nodes::Node;
+use nodes::SUM_COUNT;
 use nodes::Sums;
 use nodes::VALUE;
 use nodes::node_at;
@@ -51,7 +52,7 @@ fn earning(board: &Board, nodes: &[u8], section: Section) -> usize
     requires { ⌜ MayList (piecesOn (now board)) section ⌝ }
     ensures { λ r. ⌜ EarnsThere (piecesOn (now (board .entry))) (now (nodes .entry)) section r ⌝ }
 {
-    let mut sums: Sums = [0; 3];
+    let mut sums: Sums = [0; SUM_COUNT];
     read_part(
         board,
         nodes,

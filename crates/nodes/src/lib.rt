@@ -35,7 +35,9 @@ pub const PIECE_AREA: usize = 1;
 
 pub const SCRAP_AREA: usize = 2;
 
-pub type Sums = [u32; 3];
+pub const SUM_COUNT: usize = 3;
+
+pub type Sums = [u32; SUM_COUNT];
 
 // The node that a part of this width and height starts with.
 pub fn node_at(board: &Board, nodes: &[u8], at: usize, width: usize, height: usize) -> Node

@@ -9,12 +9,13 @@ ghost use Rattle.fields.specs.Sum.{sumOf};
 ghost use Rattle.cells.specs.Cells.{cellOf};
 ghost use Rattle.board.specs.Inner.{boardOf};
 ghost use Rattle.laws.specs.Inner.{Wrote};
-ghost use Rattle.fields.specs.Format.{sumField, fileMost};
+ghost use Rattle.fields.specs.Format.{sumField, sumLength, fileMost};
 ghost use Rattle.plan.specs.Inner.{planFile, Ready};
 use board::Board;
 use fields::cast::wide;
 use fields::format::NODES_FIELD;
 use fields::format::SUM_FIELD;
+use fields::format::SUM_LENGTH;
 use fields::format::VALUE_FIELD;
 use fields::put4;
 use fields::sum_of;
@@ -36,12 +37,12 @@ fn put_pointers(o: &mut [u8], at: usize, nodes: usize, value: u32)
 
 // Writes the sum of all that stands before it, and answers where the file ends.
 fn put_sum(o: &mut [u8], at: usize) -> usize
-    requires { ⌜ at + 4 ≤ length (now o) ⌝ }
+    requires { ⌜ at + sumLength ≤ length (now o) ⌝ }
     ensures { λ r. ⌜ Wrote (now (o .entry)) at (bytes4 (sumOf (take at (now (o .entry))))) r (now (o .exit)) ⌝ }
 {
     let sum = sum_of(&o[..at]);
     put4(o, at, sum);
-    at + 4
+    at + SUM_LENGTH
 }
 
 // Writes the file of x by y, whose cell holds this value, and answers its length.

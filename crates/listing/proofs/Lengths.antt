@@ -53,9 +53,9 @@ unfolding headText
 head-length value worked h k =
     simp length-append (omega (arith, spaced-length 9 value h, ended-length 9 worked k))
 
-pub refused-length : (number : ℕ) → number < 10 → length (refusedText number) ≤ headMost
+pub refused-length : (number : ℕ) → number < 100 → length (refusedText number) ≤ headMost
 unfolding refusedText
-refused-length number h = simp length-append (omega (arith, ended-length 0 number h))
+refused-length number h = simp length-append (omega (arith, ended-length 1 number h))
 
 -- "one line per node": a tree on a sheet has no longer a listing than its nodes allow.
 module _ {pieces : List Piece} (range : InRange (Lays pieces)) (few : length pieces < 1_000) where

@@ -28,10 +28,10 @@ use Rattle.listing.proofs.Lengths.{head-length, refused-length, listing-length}
 use Rattle.program.specs.Sizes.{planRoom, textMost}
 use Rattle.program.specs.Program.{textOr, treeLines, planText, plannedText, askedText, enteredText, newTable, jobText, programText}
 use Rattle.program.proofs.Texts.{plan-with}
-use Rattle.program.proofs.Digits.{ask-digit, plan-digit, entered-digit}
+use Rattle.program.proofs.Digits.{ask-digits, plan-digits, entered-digits}
 
 -- A refusal's line is short.
-or-fits : (n : ℕ) (text : List ℕ) → n < 10 → (n ≡ 0 → length text ≤ textMost) → length (textOr n text) ≤ textMost
+or-fits : (n : ℕ) (text : List ℕ) → n < 100 → (n ≡ 0 → length text ≤ textMost) → length (textOr n text) ≤ textMost
 unfolding textOr
 or-fits zero text h f = f refl
 or-fits (suc k) text h f = omega (arith, refused-length (suc k) h)
@@ -60,18 +60,18 @@ plan-fits job t worked w e =
 planned-fits : (job : Job) (t : List ℕ) (worked : ℕ) → worked ≤ job .width * job .height
     → length (plannedText job t (cellOf (job .width) t (job .width) (job .height)) worked) ≤ textMost
 unfolding plannedText
-planned-fits job t worked w = or-fits _ _ (plan-digit job t (job .width) (job .height) planRoom) (plan-fits job t worked w)
+planned-fits job t worked w = or-fits _ _ (plan-digits job t (job .width) (job .height) planRoom) (plan-fits job t worked w)
 
 asked-fits : (job : Job) (t : List ℕ) → length (askedText job t) ≤ textMost
 unfolding askedText
 asked-fits job t =
     let a = job .width in
     let b = job .height in
-    or-fits _ _ (ask-digit job t a b) (λ _. planned-fits job (filledFor job t a b) _ (countInBox-bound a b (isEmpty a t)))
+    or-fits _ _ (ask-digits job t a b) (λ _. planned-fits job (filledFor job t a b) _ (countInBox-bound a b (isEmpty a t)))
 
 job-fits : (from : Job) → length (jobText from) ≤ textMost
 unfolding jobText enteredText
-job-fits from = or-fits _ _ (entered-digit from newTable) (λ _. asked-fits _ _)
+job-fits from = or-fits _ _ (entered-digits from newTable) (λ _. asked-fits _ _)
 
 pub text-fits : (block : List ℕ) → length (programText block) ≤ textMost
 unfolding programText

@@ -140,7 +140,7 @@ static const struct {
     call which;
 } cases[] = {
     {"dense", "ask 240 by 240, 64 pieces, cold", prepare_dense, ASK},
-    {"table-1", "ask 127 by 98, 5 pieces (001), cold", prepare_table_1, ASK},
+    {"table-1", "ask 127 by 98, 5 pieces (Herz, Table 1), cold", prepare_table_1, ASK},
     {"sparse", "ask 240 by 240, 3 large pieces, cold", prepare_sparse, ASK},
     {"corrected-large", "ask again, 200 by 180 corrected", prepare_corrected_large, ASK},
     {"corrected-small", "ask again, 15 by 12 corrected", prepare_corrected_small, ASK},

@@ -167,8 +167,8 @@ typedef struct {
     points p, q;
 } sheet;
 
-/* What the tree rules say of x by y: a letter of the file with its number, 'T'
-   for rule 5's trim of a piece, or 0 for rule 6. */
+/* What rules 6.1 to 6.6 say of x by y: a letter of the file with its number, 'T'
+   for rule 6.5's trim of a piece, or 0 for rule 6.6. */
 typedef struct {
     uint32_t letter, number;
 } choice;
@@ -199,7 +199,7 @@ static choice choose(const sheet *s, uint32_t x, uint32_t y) {
     return (choice){0, 0};
 }
 
-/* The number of nodes of x by y; at least 2^24 where rule 6 strikes. */
+/* The number of nodes of x by y; at least 2^24 where rule 6.6 strikes. */
 static uint32_t count_nodes(const sheet *s, uint32_t x, uint32_t y) {
     choice c = choose(s, x, y);
     switch (c.letter) {

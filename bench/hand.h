@@ -1,9 +1,10 @@
 /*
  * The same work in C by hand, to measure beside the library: ask cell by cell
- * as the rule reads, the dull scheme with every line, plan and check. Written
+ * as rule 4.8 reads, the dull scheme with every line, plan and check. Written
  * as a C programmer would who trusts the caller's pointers and wants it quick
- * without rearranging the rule; refusals are tested as document 01 says, since
- * that is part of the work.
+ * without rearranging the rule; refusals are tested by rules 7.1 to 7.3 and
+ * rules 7.6 to 7.13 (in the dull scheme without rule 7.7), since that is part of
+ * the work.
  */
 #ifndef HAND_H
 #define HAND_H

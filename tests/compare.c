@@ -379,7 +379,7 @@ static ref_job other_job(void) {
     return other;
 }
 
-/* "Records past n in a job aren't read" */
+/* Any numbers behind the n-th piece, where no call looks (rule 4.12). */
 static void scribble_past_n(ref_job *other) {
     for (uint32_t i = other->count; i < REF_PIECES_MAX; i++) {
         other->pieces[i].width = (uint16_t)draw();
@@ -472,7 +472,7 @@ static void open_session(uint32_t a, uint32_t b) {
 
 /* ---- ask ---- */
 
-/* Mission 3's premise holds: a filled cell has the best value. */
+/* On a kept table a filled cell has the best value (rule 10.5). */
 static void look_at_kept_table(void) {
     if (!best_known)
         ref_best(&job, best);
@@ -979,7 +979,8 @@ static void report_met(void) {
     }
     for (int rule = 0; rule <= 6; rule++)
         report(ref_rule_struck[rule] >= 10, "tree: %s%d struck %lu times",
-               rule == 0 ? "a cell above its bound, rule " : "rule ", rule, ref_rule_struck[rule]);
+               rule == 0 ? "a cell above its bound (rule 7.7), entry " : "rule 6.", rule,
+               ref_rule_struck[rule]);
     report(kept_questions >= 1000 && kept_plans >= 200,
            "kept tables: %lu answers are best values, every line tried; %lu plans, never a 7",
            kept_questions, kept_plans);

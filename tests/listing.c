@@ -1,5 +1,5 @@
 /*
- * What the program must print, by the reference alone:
+ * What the program must print (rules 9.1 to 9.6), by the reference alone:
  *
  *   listing              reads a job block from standard input, prints
  *   listing block SEED   a random block to try, good or bad
@@ -10,18 +10,19 @@
 
 #include "reference.h"
 
-/* "Its table has 16,384 cells, its plan buffer 32,768 bytes." */
+/* The program's own rows (rule 9.2). */
 enum { TABLE = 16384, BUFFER = 32768, INPUT_MAX = 70000 };
 
 static uint32_t cells[TABLE];
 static uint8_t file[BUFFER];
 
+/* The one line of a refusal (rule 9.4). */
 static int refused(uint32_t number) {
     printf("refused %u\n", number);
     return 0;
 }
 
-/* ---- the lines, one for each node in file order ---- */
+/* ---- the lines, one for each node in file order (rule 9.5) ---- */
 
 /* What the part at this node earns; *at moves past it. */
 static uint32_t earning(const ref_job *job, size_t *at) {
@@ -55,8 +56,8 @@ static void print_part(const ref_job *job, size_t *at, uint32_t level, uint32_t 
     }
 }
 
-/* "It reads one job block from standard input, adds its pieces, asks and plans
-   the whole stock, and prints." */
+/* Open, add, ask and plan, one after the other (rule 9.1): the first refusal is
+   printed, be it of the bytes (rule 9.3) or of a call, or else the listing. */
 static int list(const uint8_t *block, size_t length) {
     if (length < REF_HEADER || length != REF_HEADER + REF_RECORD * (size_t)ref_get16(block + 4) ||
         ref_get16(block + 4) > REF_PIECES_MAX)

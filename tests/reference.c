@@ -1,32 +1,36 @@
-/* See reference.h. Sentences in quotes are document 01's. */
+/* See reference.h. Each function cites the rules that it follows. */
 #include "reference.h"
 
 #include <string.h>
 
 unsigned long ref_rule_struck[7];
 
-/* ---- numbers in bytes: "Numbers are little-endian." ---- */
+/* ---- numbers in bytes ---- */
 
+/* Two bytes are read, the lowest first (rule 8.1). */
 uint32_t ref_get16(const uint8_t *at) {
     return (uint32_t)at[0] + 256u * at[1];
 }
 
+/* Four bytes are read (rule 8.1). */
 uint32_t ref_get32(const uint8_t *at) {
     return ref_get16(at) + 65536u * ref_get16(at + 2);
 }
 
+/* Two bytes are written (rule 8.1). */
 void ref_put16(uint8_t *at, uint32_t number) {
     at[0] = (uint8_t)(number % 256);
     at[1] = (uint8_t)(number / 256 % 256);
 }
 
+/* Four bytes are written (rule 8.1). */
 void ref_put32(uint8_t *at, uint32_t number) {
     ref_put16(at, number % 65536);
     ref_put16(at + 2, number / 65536);
 }
 
-/* "The sum starts at 1; for each byte [..] it becomes three times itself plus
-   the byte, modulo 4,294,967,296." */
+/* From 1 on, byte by byte: three times the sum so far and the byte, modulo 2^32
+   (rule 8.9). */
 uint32_t ref_sum(const uint8_t *bytes, size_t length) {
     uint64_t sum = 1;
     for (size_t i = 0; i < length; i++)
@@ -36,17 +40,19 @@ uint32_t ref_sum(const uint8_t *bytes, size_t length) {
 
 /* ---- the job ---- */
 
+/* Least and most belong to a range (rules 1.2 to 1.6). */
 static int within(uint64_t number, uint64_t least, uint64_t most) {
     return least <= number && number <= most;
 }
 
+/* Size and value of a piece (rules 1.4 and 1.5). */
 int ref_piece_in_range(ref_piece piece) {
     return within(piece.width, 1, REF_SIZE_MAX) && within(piece.height, 1, REF_SIZE_MAX) &&
            within(piece.value, 1, REF_VALUE_MAX);
 }
 
-/* "a side, n or a piece of the job is outside its range"; "Records past n in a
-   job aren't read" */
+/* The sides, n and the first n pieces (rules 1.2 to 1.5); nothing behind them is
+   looked at (rule 4.12). */
 int ref_job_in_range(const ref_job *job) {
     if (!within(job->width, 1, REF_SIDE_MAX) || !within(job->height, 1, REF_SIDE_MAX))
         return 0;
@@ -58,6 +64,7 @@ int ref_job_in_range(const ref_job *job) {
     return 1;
 }
 
+/* Sides, n and pieces, two bytes each (rule 8.4); 64 pieces where n is above that. */
 size_t ref_block(const ref_job *job, uint8_t block[REF_BLOCK_MAX]) {
     uint32_t held = job->count <= REF_PIECES_MAX ? job->count : REF_PIECES_MAX;
     ref_put16(block, job->width);
@@ -72,7 +79,8 @@ size_t ref_block(const ref_job *job, uint8_t block[REF_BLOCK_MAX]) {
     return REF_HEADER + REF_RECORD * held;
 }
 
-/* Reads a job from bytes that have room for its pieces; 0 if n is above 64. */
+/* Reads a job from bytes that have room for its pieces (rule 8.4); 0 if n is above
+   64 (rule 1.3). */
 static int read_job(const uint8_t *block, ref_job *job) {
     memset(job, 0, sizeof *job);
     job->width = (uint16_t)ref_get16(block);
@@ -89,8 +97,8 @@ static int read_job(const uint8_t *block, ref_job *job) {
     return 1;
 }
 
-/* "A block shorter than 6 bytes, or whose length isn't 6 + 6n, or whose n is
-   above 64, counts as refusal 1" */
+/* The job that was lent as bytes; 0 if they are no job block, or it isn't in its
+   ranges (rules 4.14 and 7.1). */
 static int lent_job(const uint8_t *block, size_t block_len, ref_job *job) {
     if (block_len < REF_HEADER)
         return 0;
@@ -101,19 +109,22 @@ static int lent_job(const uint8_t *block, size_t block_len, ref_job *job) {
 
 /* ---- the table ---- */
 
-/* "Cell (x, y) is at index (y−1)·a + (x−1)." */
+/* Row after row of a cells, from (1, 1) on (rule 4.1). */
 size_t ref_cell(uint32_t a, uint32_t x, uint32_t y) {
     return (size_t)(y - 1) * a + (x - 1);
 }
 
+/* Fewer cells are lent than the sheet has (rule 7.2). */
 static int table_is_short(const ref_job *job, size_t cells_len) {
     return cells_len < (size_t)job->width * job->height;
 }
 
+/* The size goes into x by y (rule 5.1). */
 static int fits(ref_piece piece, uint32_t x, uint32_t y) {
     return piece.width <= x && piece.height <= y;
 }
 
+/* Empties the cells where the size fits, and no other (rules 5.2 and 5.3). */
 static void empty_where_fits(const ref_job *job, uint32_t *cells, ref_piece piece) {
     for (uint32_t y = 1; y <= job->height; y++)
         for (uint32_t x = 1; x <= job->width; x++)
@@ -123,7 +134,7 @@ static void empty_where_fits(const ref_job *job, uint32_t *cells, ref_piece piec
 
 /* ---- open, add, correct, remove ---- */
 
-/* A refusal: "the job as it came". */
+/* A refusal: its number, and the job untouched (rule 4.15). */
 static ref_changed unchanged(uint32_t refusal, const ref_job *job) {
     ref_changed answer;
     memset(&answer, 0, sizeof answer);
@@ -132,7 +143,7 @@ static ref_changed unchanged(uint32_t refusal, const ref_job *job) {
     return answer;
 }
 
-/* Accepted: these pieces, and records past n "as zeros". */
+/* Accepted: number 0 (rule 4.15), these pieces, and zeros behind them (rule 4.12). */
 static ref_changed changed(const ref_job *job, const ref_piece *pieces, uint32_t count) {
     ref_changed answer;
     memset(&answer, 0, sizeof answer);
@@ -144,6 +155,7 @@ static ref_changed changed(const ref_job *job, const ref_piece *pieces, uint32_t
     return answer;
 }
 
+/* Open (rule 4.4); refused by rules 7.1 and 7.2, with a job of zeros (rule 4.17). */
 ref_changed ref_open(uint32_t width, uint32_t height, uint32_t *cells, size_t cells_len) {
     ref_job none, fresh;
     memset(&none, 0, sizeof none);
@@ -159,6 +171,7 @@ ref_changed ref_open(uint32_t width, uint32_t height, uint32_t *cells, size_t ce
     return changed(&fresh, fresh.pieces, 0);
 }
 
+/* Add (rules 4.5 and 5.2); refused by rules 7.1 and 7.2, then rules 7.4 and 7.5. */
 ref_changed ref_add(ref_job job, uint32_t *cells, size_t cells_len, ref_piece piece) {
     ref_piece pieces[REF_PIECES_MAX];
     if (!ref_job_in_range(&job))
@@ -175,6 +188,7 @@ ref_changed ref_add(ref_job job, uint32_t *cells, size_t cells_len, ref_piece pi
     return changed(&job, pieces, job.count + 1u);
 }
 
+/* Correct (rules 4.6 and 5.2), equal pieces too; refused by rules 7.1 to 7.4. */
 ref_changed ref_correct(ref_job job, uint32_t *cells, size_t cells_len, uint32_t number,
                         ref_piece piece) {
     ref_piece pieces[REF_PIECES_MAX];
@@ -193,6 +207,7 @@ ref_changed ref_correct(ref_job job, uint32_t *cells, size_t cells_len, uint32_t
     return changed(&job, pieces, job.count);
 }
 
+/* Remove (rules 4.7 and 5.2); refused by rules 7.1 to 7.3. */
 ref_changed ref_remove(ref_job job, uint32_t *cells, size_t cells_len, uint32_t number) {
     ref_piece pieces[REF_PIECES_MAX];
     uint32_t left = 0;
@@ -211,8 +226,8 @@ ref_changed ref_remove(ref_job job, uint32_t *cells, size_t cells_len, uint32_t 
 
 /* ---- points ---- */
 
-/* "P is the set of sums of one or more piece widths, repeats allowed, that are
-   at most a; Q the same for heights and b [..] Zero belongs to neither." */
+/* P or Q (rules 3.1 to 3.3): from 1 up to the side, a number is a point when it is
+   a size, or a size more than a point. */
 uint32_t ref_points(const ref_job *job, int tall, uint8_t marks[REF_SIDE_MAX + 1]) {
     uint32_t side = tall ? job->height : job->width, members = 0;
     memset(marks, 0, REF_SIDE_MAX + 1);
@@ -229,7 +244,7 @@ uint32_t ref_points(const ref_job *job, int tall, uint8_t marks[REF_SIDE_MAX + 1
 
 /* ---- ask ---- */
 
-/* "a non-empty cell (u, w) in the box exceeds u·w·65,535" */
+/* A filled cell of the box is above the bound of its area (rule 7.7). */
 static int cell_exceeds(const ref_job *job, const uint32_t *cells, uint32_t x, uint32_t y) {
     for (uint32_t w = 1; w <= y; w++)
         for (uint32_t u = 1; u <= x; u++) {
@@ -240,13 +255,13 @@ static int cell_exceeds(const ref_job *job, const uint32_t *cells, uint32_t x, u
     return 0;
 }
 
+/* x by y is no rectangle of the sheet (rule 7.3). */
 static int question_outside(const ref_job *job, uint32_t x, uint32_t y) {
     return !within(x, 1, job->width) || !within(y, 1, job->height);
 }
 
-/* "the largest of: 0; v of a piece with p ≤ u and q ≤ w; cell (c, w) plus cell
-   (u−c, w) for c in P with c ≤ u/2; cell (u, d) plus cell (u, w−d) for d in Q
-   with d ≤ w/2" */
+/* The largest candidate of cell (u, w): nothing, a piece that fits, a line at a
+   point up to half (rule 4.8). */
 static uint32_t worth(const ref_job *job, const uint32_t *cells, const uint8_t *in_p,
                       const uint8_t *in_q, uint32_t u, uint32_t w) {
     uint32_t a = job->width;
@@ -269,6 +284,9 @@ static uint32_t worth(const ref_job *job, const uint32_t *cells, const uint8_t *
     return (uint32_t)largest;
 }
 
+/* Ask (rules 4.8 and 4.9): rows upwards, each from the left, so that the cells on
+   both sides of a line have their last numbers; refused by rules 7.1 to 7.3, then
+   rule 7.7. */
 ref_asked ref_ask(const uint8_t *block, size_t block_len, uint32_t *cells, size_t cells_len,
                   uint32_t x, uint32_t y) {
     ref_job job;
@@ -297,6 +315,7 @@ ref_asked ref_ask(const uint8_t *block, size_t block_len, uint32_t *cells, size_
 
 /* ---- the best value, by its definition ---- */
 
+/* The most of the four ways of rules 2.2 to 2.5, for each rectangle (rule 2.6). */
 void ref_best(const ref_job *job, uint32_t *best) {
     uint32_t a = job->width;
     for (uint32_t y = 1; y <= job->height; y++)
@@ -322,7 +341,8 @@ void ref_best(const ref_job *job, uint32_t *best) {
 
 /* ---- plan ---- */
 
-/* A plan while it is written: first apart, so that a refusal writes nothing. */
+/* A plan while it is written: first apart, so that a refusal writes nothing
+   (rule 4.15). */
 typedef struct {
     const ref_job *job;
     const uint32_t *cells;
@@ -331,18 +351,20 @@ typedef struct {
     size_t length;
 } draft;
 
+/* A letter and its number (rule 8.5). */
 static void node(draft *plan, char letter, uint32_t number) {
     plan->file[plan->length] = (uint8_t)letter;
     ref_put16(plan->file + plan->length + 1, number);
     plan->length += REF_NODE;
 }
 
+/* The number in a cell (rule 4.1). */
 static uint64_t cell_of(const draft *plan, uint32_t x, uint32_t y) {
     return plan->cells[ref_cell(plan->job->width, x, y)];
 }
 
-/* Rule 5: "vertical line at p where p < x, in the left part a horizontal line
-   at q where q < y, then the piece; the parts cut off are scrap" */
+/* Rule 6.5: piece k with a line on its right and one above it, where there is
+   something to cut off; near parts come first (rule 8.6). */
 static void trim(draft *plan, uint32_t k, uint32_t x, uint32_t y) {
     uint32_t p = plan->job->pieces[k - 1].width, q = plan->job->pieces[k - 1].height;
     if (p < x)
@@ -356,7 +378,8 @@ static void trim(draft *plan, uint32_t k, uint32_t x, uint32_t y) {
         node(plan, 'S', 0);
 }
 
-/* The tree for x by y, rules 1 to 6 in their order; 0 if rule 6 strikes. */
+/* The tree for x by y, rules 6.1 to 6.6 in their order, its nodes in that of
+   rule 8.6; 0 if rule 6.6 strikes. */
 static int tree(draft *plan, uint32_t x, uint32_t y) {
     const ref_job *job = plan->job;
     uint64_t value = cell_of(plan, x, y);
@@ -395,6 +418,7 @@ static int tree(draft *plan, uint32_t x, uint32_t y) {
     return 0;
 }
 
+/* The box has a cell that is empty (rule 7.6). */
 static int cell_is_empty(const ref_job *job, const uint32_t *cells, uint32_t x, uint32_t y) {
     for (uint32_t w = 1; w <= y; w++)
         for (uint32_t u = 1; u <= x; u++)
@@ -403,8 +427,8 @@ static int cell_is_empty(const ref_job *job, const uint32_t *cells, uint32_t x, 
     return 0;
 }
 
-/* "Last a trailer of 16 bytes that points back: D1 [..] D2 [..] the value; the
-   sum (four bytes each)." */
+/* D1, D2, value and sum (rules 8.7 to 8.9); without a note (rule 8.3) D1 is all that
+   stands before. */
 static void trailer(draft *plan, size_t block_len, uint32_t value) {
     size_t start = plan->length;
     ref_put32(plan->file + start, (uint32_t)start);
@@ -414,6 +438,7 @@ static void trailer(draft *plan, size_t block_len, uint32_t value) {
     plan->length += REF_TRAILER;
 }
 
+/* Plan (rule 4.10); refused by rules 7.1 to 7.3, then rules 7.6 to 7.8. */
 ref_planned ref_plan(const uint8_t *block, size_t block_len, const uint32_t *cells,
                      size_t cells_len, uint32_t x, uint32_t y, uint8_t *file, size_t file_len) {
     static draft plan;
@@ -435,7 +460,7 @@ ref_planned ref_plan(const uint8_t *block, size_t block_len, const uint32_t *cel
     plan.cells = cells;
     ref_points(&job, 0, plan.in_p);
     ref_points(&job, 1, plan.in_q);
-    /* "width and height are those of the planned rectangle" */
+    /* the block's sides are x and y (rule 8.4) */
     planned = job;
     planned.width = (uint16_t)x;
     planned.height = (uint16_t)y;
@@ -452,14 +477,14 @@ ref_planned ref_plan(const uint8_t *block, size_t block_len, const uint32_t *cel
 
 /* ---- check ---- */
 
-/* What is read of the nodes, and what the leaves came to. */
+/* What is read of the nodes, and what the leaves came to (rules 2.7 and 8.8). */
 typedef struct {
     const ref_job *job;
     const uint8_t *next, *end;
     uint64_t value, piece_area, scrap_area;
 } reader;
 
-/* One part x by y: 1 if its nodes keep the rules of refusal 12. */
+/* One part x by y, in the order of rule 8.6: 1 if its nodes keep rule 8.10. */
 static int part(reader *nodes, uint32_t x, uint32_t y) {
     uint32_t letter, number;
     if (nodes->end - nodes->next < REF_NODE)
@@ -486,12 +511,13 @@ static int part(reader *nodes, uint32_t x, uint32_t y) {
     return 0;
 }
 
+/* Check (rules 4.11 and 8.11); refused by rules 7.9 to 7.13. */
 ref_checked ref_check(const uint8_t *file, size_t file_len) {
     size_t start, first;
     uint64_t d1, d2;
     ref_job job;
     reader nodes;
-    /* 9: "file length out of range, D1 < 9, or D1 > length − 16" */
+    /* 9: the length, and where D1 leads (rules 1.6 and 7.9) */
     if (!within(file_len, REF_FILE_MIN, REF_FILE_MAX))
         return (ref_checked){9, 0, 0, 0, 0};
     start = file_len - REF_TRAILER;
@@ -500,20 +526,20 @@ ref_checked ref_check(const uint8_t *file, size_t file_len) {
     if (d1 < 9 || d1 > start)
         return (ref_checked){9, 0, 0, 0, 0};
     first = start - (size_t)d1;
-    /* 10: "the running sum differs" */
+    /* 10: the sum, from the block to the value (rules 7.10 and 8.9) */
     if (ref_sum(file + first, (size_t)d1 + 12) != ref_get32(file + start + 12))
         return (ref_checked){10, 0, 0, 0, 0};
-    /* 11: "job block out of range, or D1 isn't 6 + 6n + D2"; the second is
-       tested first, so that the block is known to lie before the trailer */
+    /* 11: the block (rule 7.11); D1 against n and D2 is tested first, so that the
+       block is known to lie before the trailer */
     if (d1 != REF_HEADER + REF_RECORD * (uint64_t)ref_get16(file + first + 4) + d2)
         return (ref_checked){11, 0, 0, 0, 0};
     if (!read_job(file + first, &job) || !ref_job_in_range(&job))
         return (ref_checked){11, 0, 0, 0, 0};
-    /* 12: the nodes */
+    /* 12: the nodes, all of them (rules 7.12 and 8.10) */
     nodes = (reader){&job, file + (start - (size_t)d2), file + start, 0, 0, 0};
     if (!part(&nodes, job.width, job.height) || nodes.next != nodes.end)
         return (ref_checked){12, 0, 0, 0, 0};
-    /* 13: "the stated value isn't the sum of the leaves" */
+    /* 13: the value (rules 7.13 and 8.8) */
     if (nodes.value != ref_get32(file + start + 8))
         return (ref_checked){13, 0, 0, 0, 0};
     return (ref_checked){0, (uint32_t)nodes.value, (uint32_t)first, (uint32_t)nodes.piece_area,

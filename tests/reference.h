@@ -1,8 +1,8 @@
 /*
- * A reference of all calls, written from document 01 alone. It shares nothing
- * with the crates: it is plain where they are quick, and it is believed only
- * because it is short and because the sheets of document 01 are tried on it
- * first (sheets.c).
+ * A reference of all calls, by docs/RULES.md and docs/FORMAT.md alone. It shares
+ * no line with the library: it is plain where that is quick, and it is believed
+ * only because it is short, because each function cites the rules that it
+ * follows, and because the sheets of section 12 are tried on it first (sheets.c).
  */
 #ifndef REFERENCE_H
 #define REFERENCE_H
@@ -67,32 +67,34 @@ ref_checked ref_check(const uint8_t *file, size_t file_len);
 
 /* What the tests want to know besides. */
 
-/* The place of cell (x, y) in the row. */
+/* The place of cell (x, y) in the row (rule 4.1). */
 size_t ref_cell(uint32_t a, uint32_t x, uint32_t y);
 
-/* Is piece a piece, is job a job (refusals 4 and 1)? */
+/* Is piece a piece (rule 7.4), is job a job (rule 7.1)? */
 int ref_piece_in_range(ref_piece piece);
 int ref_job_in_range(const ref_job *job);
 
-/* The best value of every rectangle of the sheet, by the definition: scrap, an
-   exact piece, or any line at all. No points, no halves. */
+/* The best value of every rectangle of the sheet, by the definition (rule 2.6):
+   scrap, an exact piece, or any line at all. No points, no halves. */
 void ref_best(const ref_job *job, uint32_t *best);
 
-/* P (or, if tall, Q): marks[s] for s from 1 to the side; answers their number. */
+/* P (or, if tall, Q; rules 3.1 to 3.3): marks[s] for s from 1 to the side; answers
+   their number. */
 uint32_t ref_points(const ref_job *job, int tall, uint8_t marks[REF_SIDE_MAX + 1]);
 
-/* The job block of a job, whatever its numbers are; answers its length. */
+/* The job block of a job (rule 8.4), whatever its numbers are; answers its length. */
 size_t ref_block(const ref_job *job, uint8_t block[REF_BLOCK_MAX]);
 
-/* The running sum of so many bytes, and little-endian numbers. */
+/* The running sum of so many bytes (rule 8.9), and little-endian numbers (rule 8.1). */
 uint32_t ref_sum(const uint8_t *bytes, size_t length);
 uint32_t ref_get16(const uint8_t *at);
 uint32_t ref_get32(const uint8_t *at);
 void ref_put16(uint8_t *at, uint32_t number);
 void ref_put32(uint8_t *at, uint32_t number);
 
-/* How often each tree rule (1 to 6) has struck in ref_plan, and at 0 how often
-   it refused a cell above its bound: for the tests' account of what they met. */
+/* How often each of rules 6.1 to 6.6 has struck in ref_plan, at 1 to 6, and at 0 how
+   often it refused a cell above its bound (rule 7.7): for the tests' account of
+   what they met. */
 extern unsigned long ref_rule_struck[7];
 
 #endif

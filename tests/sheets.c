@@ -1,7 +1,8 @@
 /*
- * The sheets and runs of document 01, tried on the reference first (a broken
- * reference must not pass) and then on the library. Expected numbers and bytes
- * are written out here by hand, from document 01 and by counting on paper.
+ * The sheets and runs of docs/RULES.md, section 12, tried on the reference first
+ * (a broken reference must not pass) and then on the library. Expected numbers
+ * and bytes are written out here: those that section 12 and docs/FORMAT.md give,
+ * the others counted by hand.
  */
 #include <stdio.h>
 #include <string.h>

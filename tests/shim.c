@@ -43,7 +43,7 @@ static khon_changed out(ref_changed answer) {
 
 /* ---- open, add, correct, remove ---- */
 
-static ref_job last_added; /* for "P kept from before a correction" */
+static ref_job last_added; /* for P kept from before a correction */
 
 khon_changed khon_open(uint32_t width, uint32_t height, uint32_t *cells, size_t cells_len) {
     ref_changed answer;

@@ -93,7 +93,7 @@ pub sum-over : (S R : ℕ → Type 0) → ((p : ℕ) → S p → R p) → (c : �
 sum-over S R f c (one {s} z) = one (f s z)
 sum-over S R f c (more {s} {r} z rest q) = more (f s z) (sum-over S R f r rest) q
 
--- "P is the set of sums of one or more piece widths, repeats allowed, that are at most a."
+-- Where the sizes are the widths of a lay, the test says that c is a point of P (rule 3.1).
 pub isPoint-P : (lay : Lay) (size : ℕ → ℕ) (n a c : ℕ) → ((p : ℕ) → Width lay p ↔ Size size n p) → Says (isPoint size n a c) (P lay a c)
 isPoint-P lay size n a c same = says-iff (means, found) (isPoint-says size n a c)
   where

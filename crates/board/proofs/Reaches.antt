@@ -1,4 +1,4 @@
--- `reaches` is true exactly of the sums of one or more sizes, repeats allowed.
+-- `reaches` is true exactly of the sums of one or more sizes, each as often as one likes.
 use Prim.Native.Nat.{ℕ, zero, suc, _+_, _-_, _≤_, _<_}
 use mathlib.Core.Bool.{Bool, true, false, _&&_, _||_}
 use mathlib.Core.Path.{_≡_, refl, sym, ap, _∙_}
@@ -59,7 +59,7 @@ pub someMakes-more : (made : ℕ → Bool) (size : ℕ → ℕ) (n c : ℕ) → 
 unfolding someMakes
 someMakes-more made size n c e h = anyBelow-more (λ k. makes made (size k) c) n ∙ rw (e, h)
 
--- "Zero belongs to neither."
+-- 0 is no point (rule 3.3).
 pub reaches-zero : (size : ℕ → ℕ) (n : ℕ) → reaches size n 0 ≡ false
 unfolding reaches reachesUpTo
 reaches-zero size n = refl
@@ -181,6 +181,6 @@ module _ (size : ℕ → ℕ) (n : ℕ) where
       onTopOf (inl some) (inr none) made = reaches-own c h .found (alone (z .among) (omega (arith, z .equal)))
       onTopOf (inl some) (inl rest) made = reaches-own c h .found (onTop (z .among) (omega arith) (omega (arith, z .equal)) (made rest))
 
-  -- The test says "sums of one or more .., repeats allowed".
+  -- The test says that c is a sum of one or more sizes (rule 3.1).
   pub reaches-says : (c : ℕ) → 1 ≤ c → Says (reaches size n c) (Sum (Size size n) c)
   reaches-says c h = record { means = reaches-sum c c (omega arith); found = λ s. sum-reaches c s h }

@@ -99,8 +99,7 @@ rowsOn board =
 unfoldable pub piecesOn : List ℕ → List Piece
 piecesOn board = byIndex (λ k. sized (widthAt board k) (heightAt board k) (valueAt board k)) (countOn board)
 
--- "P is the set of sums of one or more piece widths, repeats allowed, that are at most a; Q the same for heights and b.
--- Zero belongs to neither." Here as tests that compute, found in one pass from small to large.
+-- The points of P and Q (rules 3.1 to 3.3), here as tests that compute, found in one pass from small to large.
 -- `size k` is the width of the piece at index k for P, and its height for Q: both are one definition.
 
 -- s is one of the first n sizes.
@@ -117,18 +116,18 @@ makes made s c = eqb s c || (ltb s c && made (c - s))
 unfoldable pub someMakes : (ℕ → Bool) → (ℕ → ℕ) → ℕ → ℕ → Bool
 someMakes made size n c = anyBelow (λ k. makes made (size k) c) n
 
--- The test for each of 0, 1, …, c. "Zero belongs to neither."
+-- The test for each of 0, 1, …, c. It is false of 0 (rule 3.3).
 unfoldable pub reachesUpTo : (ℕ → ℕ) → ℕ → ℕ → List Bool
 reachesUpTo size n zero = false ∷ []
 reachesUpTo size n (suc c) =
     let before = reachesUpTo size n c in
     before ++ (someMakes (λ m. getD before m false) size n (suc c) ∷ [])
 
--- Is c one of the "sums of one or more .., repeats allowed" of the first n sizes?
+-- Is c a sum of one or more of the first n sizes, each as often as one likes (rule 3.1)?
 unfoldable pub reaches : (ℕ → ℕ) → ℕ → ℕ → Bool
 reaches size n c = getD (reachesUpTo size n c) c false
 
--- ".. that are at most a"
+-- Is it besides at most the side (rules 3.1 and 3.2)?
 unfoldable pub isPoint : (ℕ → ℕ) → ℕ → ℕ → ℕ → Bool
 isPoint size n side c = elim (leb c side) [ true ↦ reaches size n c | false ↦ false ]
 
@@ -136,7 +135,7 @@ isPoint size n side c = elim (leb c side) [ true ↦ reaches size n c | false �
 abbrev pub bit : Bool → ℕ
 bit b = cond b 1 0
 
--- The marks of a stock side.
+-- The marks of a side of the sheet.
 unfoldable pub marksOf : (ℕ → ℕ) → ℕ → ℕ → List ℕ
 marksOf size n side = byIndex (λ c. bit (isPoint size n side c)) markCount
 

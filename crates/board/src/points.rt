@@ -50,7 +50,7 @@ fn bit_of(set: bool) -> u16
     if set { 1 } else { 0 }
 }
 
-// Marks the sums of one or more sizes, repeats allowed, that are at most `side`.
+// Marks each number up to `side` that is a sum of one or more sizes, each as often as one likes (rules 3.1 and 3.2).
 fn mark(board: &mut Board, sizes: usize, marks: usize, side: usize)
     requires { ⌜ MarkRoom sizes marks × (countOn (now board) ≤ entries) ⌝ }
     requires { ⌜ length (now board) ≡ places ⌝ }

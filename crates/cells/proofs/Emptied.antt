@@ -71,7 +71,7 @@ pub emptiedWhere-none : (a b : ℕ) (r : ℕ → ℕ → Bool) (t : List ℕ) �
 unfolding emptiedWhere
 emptiedWhere-none a b r t none = redrawn-same a b _ (cellOf a t) t (λ x y i. ap (left a t x y) (none x y i)) ∙ redrawn-keeps a b t
 
--- "where the old size or the new size .. fits": emptying twice empties where either is struck.
+-- Emptying twice empties where either is struck, as a correct needs it (rule 5.2).
 pub emptiedWhere-twice : (a b : ℕ) (r s : ℕ → ℕ → Bool) (t : List ℕ) → a * b ≤ length t
     → emptiedWhere a b s (emptiedWhere a b r t) ≡ emptiedWhere a b (λ x y. r x y || s x y) t
 emptiedWhere-twice a b r s t room =
@@ -109,16 +109,16 @@ pub emptied-length : (a b p q : ℕ) (t : List ℕ) → length (emptied a b p q 
 unfolding emptied
 emptied-length a b p q t = emptiedWhere-length a b (fits p q) t
 
--- "Each empties exactly the cells (x, y) where the .. size .. fits"
+-- A cell where p by q fits is empty then (rule 5.2).
 pub emptied-fitting : {p q x y a b : ℕ} (t : List ℕ) → a * b ≤ length t → Inside x y a b → Fits p q x y → cellOf a (emptied a b p q t) x y ≡ empty
 unfolding emptied
 emptied-fitting {p} {q} {x} {y} {a} t room i f = emptiedWhere-cell (fits p q) t room i ∙ ap (left a t x y) (fits-says p q x y .found f)
 
--- "Open a, b: empties the first a·b cells": every cell has room for 1 by 1.
+-- Open empties every cell, since each has room for 1 by 1 (rule 4.4).
 pub emptied-whole : {x y a b : ℕ} (t : List ℕ) → a * b ≤ length t → Inside x y a b → cellOf a (emptied a b 1 1 t) x y ≡ empty
 emptied-whole t room i = emptied-fitting t room i (omega arith)
 
--- "where the old size or the new size .. fits"
+-- Emptying for two sizes empties where either fits, as a correct does (rule 5.2).
 pub emptied-twice : (a b p q p' q' : ℕ) (t : List ℕ) → a * b ≤ length t
     → emptied a b p' q' (emptied a b p q t) ≡ emptiedWhere a b (λ x y. fits p q x y || fits p' q' x y) t
 unfolding emptied

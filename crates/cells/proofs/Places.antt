@@ -66,7 +66,7 @@ cell-place a i =
     let column : i % a + 1 - 1 ≡ i % a = omega arith in
     ap₂ (λ k r. k * a + r) row column ∙ div-add-mod' i a
 
--- "Two cells inside with equal place are the same cell."
+-- No two cells of a sheet have the same place (rule 4.1).
 pub same-place : {x y u w a b : ℕ} → Inside x y a b → Inside u w a b → place a x y ≡ place a u w → (x ≡ u) × (y ≡ w)
 same-place {a} i j e = (
   sym (place-column i) ∙ (ap (λ k. k % a + 1) e ∙ place-column j),

@@ -38,7 +38,7 @@ redrawn-cell {x} {y} {a} {b} new t room i =
     ∙ (ap (entry a new t (place a x y)) known
     ∙ ap₂ new (place-column i) (place-row i))
 
--- "Entries beyond a·b .. are never written".
+-- The entries behind the cells stay (rule 4.3).
 pub redrawn-beyond : (a b : ℕ) (new : ℕ → ℕ → ℕ) (t : List ℕ) (k : ℕ) → a * b ≤ k → getD (redrawn a b new t) k empty ≡ getD t k empty
 redrawn-beyond a b new t k h = ⊎-elim past within (le-or-lt (length t) k)
   where

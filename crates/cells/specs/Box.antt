@@ -1,4 +1,4 @@
--- Counting in a box: the cells (u, w) "with u ≤ x and w ≤ y".
+-- Counting in a box: the cells (u, w) with u ≤ x and w ≤ y (rules 4.8 and 4.9).
 use Prim.Native.Nat.{ℕ, suc}
 use mathlib.Core.Bool.{Bool, cond}
 use mathlib.Core.List.{List}

@@ -1,13 +1,13 @@
--- "The table is a lent row of 32-bit numbers."
+-- The table: where its cells stand, and what an empty one holds (rules 4.1 and 4.2).
 use Prim.Native.Nat.{ℕ, _+_, _-_, _*_}
 use mathlib.Core.List.{List}
 use lib.ListN.{getD}
 
--- "4,294,967,295 means empty."
+-- The number that an empty cell holds (rule 4.2).
 abbrev pub empty : ℕ
 empty = 4_294_967_295
 
--- "Cell (x, y) is at index (y−1)·a + (x−1)."
+-- The index of cell (x, y) in the row, for a sheet of width a (rule 4.1).
 unfoldable pub place : ℕ → ℕ → ℕ → ℕ
 place a x y = (y - 1) * a + (x - 1)
 

@@ -10,8 +10,7 @@ use Rattle.laws.specs.Inner.{anyBelow}
 use Rattle.cells.specs.Cells.{empty, cellOf}
 use Rattle.cells.specs.Box.{isEmpty}
 
--- The row in which each cell (x, y) of the sheet a by b holds `new x y`.
--- "Entries beyond a·b are no cells of the sheet: they are never written".
+-- The row in which each cell (x, y) of the sheet a by b holds `new x y`; the entries behind the cells stay (rule 4.3).
 unfoldable pub redrawn : ℕ → ℕ → (ℕ → ℕ → ℕ) → List ℕ → List ℕ
 redrawn a b new t = byIndex (λ i. cond (ltb i (a * b)) (new (i % a + 1) (i / a + 1)) (getD t i empty)) (length t)
 
@@ -23,16 +22,15 @@ pub record Holds (a b : ℕ) (t : List ℕ) : Type 0 where
   pub heightMost : b ≤ sideMax
   pub room : a * b ≤ length t
 
--- The row with "exactly the cells (x, y) where" `struck x y` emptied.
+-- The row with the cells (x, y) emptied where `struck x y` is true, and no others.
 unfoldable pub emptiedWhere : ℕ → ℕ → (ℕ → ℕ → Bool) → List ℕ → List ℕ
 emptiedWhere a b struck t = redrawn a b (λ x y. cond (struck x y) empty (cellOf a t x y)) t
 
--- A size p by q "fits, p ≤ x and q ≤ y".
+-- Does a size p by q fit in cell (x, y) (rule 5.1)?
 unfoldable pub fits : ℕ → ℕ → ℕ → ℕ → Bool
 fits p q x y = leb p x && leb q y
 
--- "Each empties exactly the cells (x, y) where the .. size .. fits". Every cell has room for 1 by 1:
--- "Open a, b: empties the first a·b cells" is `emptied a b 1 1`.
+-- The row with the cells emptied where p by q fits (rule 5.2). Open is `emptied a b 1 1`: every cell has room for 1 by 1 (rule 4.4).
 unfoldable pub emptied : ℕ → ℕ → ℕ → ℕ → List ℕ → List ℕ
 emptied a b p q t = emptiedWhere a b (fits p q) t
 
@@ -50,7 +48,7 @@ patch p x q y u w = between p x u && between q y w
 abbrev pub rowFrom : ℕ → ℕ → ℕ → ℕ → ℕ → Bool
 rowFrom a p y = patch p (a + 1) y (y + 1)
 
--- Tests over a box: the cells (u, w) "with u ≤ x and w ≤ y".
+-- Tests over a box: the cells (u, w) with u ≤ x and w ≤ y.
 
 -- Is the test true of some cell of row w, in columns 1 to x?
 unfoldable pub anyInRow : ℕ → ℕ → (ℕ → ℕ → Bool) → Bool
@@ -64,7 +62,7 @@ anyInBox x y test = anyBelow (λ j. anyInRow x (suc j) test) y
 unfoldable pub tooMuch : ℕ → ℕ → ℕ → Bool
 tooMuch v u w = not (eqb v empty) && ltb (u * w * valueMax) v
 
--- "a non-empty cell (u, w) in the box exceeds u·w·65,535"
+-- Is cell (u, w) filled, and does it hold more than its area may earn (rule 7.7)?
 unfoldable pub exceeds : ℕ → List ℕ → ℕ → ℕ → Bool
 exceeds a t u w = tooMuch (cellOf a t u w) u w
 

@@ -1,4 +1,4 @@
--- "no earning exceeds x·y·65,535 for pieces in range", so no sum of cells overflows and refusal 7 never arises on a kept table.
+-- Pieces in range earn at most 65,535 for each unit of area: no sum of cells overflows, no cell of a kept table exceeds it (rule 7.7).
 use Prim.Native.Nat.{ℕ, _+_, _-_, _*_, _≤_}
 use native.Mathlib.Omega.{arith}
 use native.Mathlib.Nat.{mul-le-mul}

@@ -1,4 +1,4 @@
--- The induction over a box: "all smaller rectangles" first.
+-- The induction over a box: the smaller rectangles first.
 use Prim.Native.Nat.{ℕ, _+_}
 use native.Mathlib.Omega.{arith}
 use Rattle.laws.proofs.Depth.{by-size}

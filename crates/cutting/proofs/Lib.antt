@@ -1,4 +1,4 @@
--- The theorems, a file for each idea. docs/PROMISES.md says which sentence each one carries.
+-- The theorems, a file for each idea. docs/PROMISES.md says which rule each one carries.
 pub mod Dissection
 pub mod Points
 pub mod Box

@@ -1,4 +1,4 @@
--- 001, Theorem 1: narrowing a rectangle to a point of P, or of Q, loses nothing.
+-- Herz, Theorem 1: narrowing a rectangle to a point of P, or of Q, loses nothing.
 use Prim.Native.Nat.{ℕ, _+_, _-_, _≤_}
 use mathlib.Core.Logic.{⊎-elim}
 use mathlib.Core.Path.{_≡_, refl, sym, subst}
@@ -9,7 +9,7 @@ use Rattle.cutting.specs.Dissection.{Line, Earns}
 use Rattle.cutting.specs.Points.{Sum, P, Narrowed}
 use Rattle.cutting.proofs.Dissection.{turned, widened}
 
--- "P is additive": sums of sums are sums.
+-- P is closed under adding: sums of sums are sums.
 pub sum-add : {size : ℕ → Type 0} {s r t : ℕ} → Sum size s → Sum size r → t ≡ s + r → Sum size t
 sum-add {t = t} (Sum.one h) q e = Sum.more {t = t} h q (omega arith)
 sum-add {r = n} {t = t} (Sum.more {s = p} {r = m} h q e) w f =

@@ -1,4 +1,4 @@
--- The rule: where all smaller rectangles' numbers are best values, the largest candidate is the best value.
+-- The rule: where the cells of all smaller rectangles hold their best values, the largest candidate is the best value (rule 4.8).
 -- The dull lines can't beat the candidates: each dissection inside u by w is matched by a candidate of (u, w).
 use Prim.Native.Nat.{ℕ, _+_, _-_, _≤_, _<_}
 use mathlib.Core.Path.{refl, subst}
@@ -110,7 +110,7 @@ module _ (lay : Lay) (range : InRange lay) (a b : ℕ) (cell : ℕ → ℕ → �
       covered : (e : ℕ) → Matched lay a b cell u w e → e ≤ v
       covered e m = omega (arith, l .bound (m .worth) (m .candidate), m .enough)
 
-  -- The best value is itself a candidate, and the largest (so tree rule 6 never strikes).
+  -- The best value is itself a candidate, and the largest (so rule 6.6 never strikes).
   pub best-is-worth : (u w v : ℕ) → Inside u w a b → BestSmaller lay cell u w → Best lay u w v → Worth lay a b cell u w v
   best-is-worth u w v j below d =
       record {
@@ -130,6 +130,6 @@ module _ (lay : Lay) (range : InRange lay) (a b : ℕ) (cell : ℕ → ℕ → �
   table-best x y g h each =
       box-induction (λ u w. Best lay u w (cell u w)) (λ u w i below. ⊎-elim (rule u w (cell u w) (omega arith) below) (λ d. d) (each u w i))
 
--- "up to half" and where a search for such lines ends.
+-- Up to half, and where a search for such lines ends.
 pub half-says : (c u : ℕ) → UpToHalf c u ↔ (c ≤ halfOf u)
 half-says c u = ((λ h. omega arith), (λ h. omega arith))

@@ -41,7 +41,7 @@ pub best-over-trees : (pieces : List Piece) (x y v : ℕ) → Best (Lays pieces)
 best-over-trees pieces x y =
     largest-same (λ e. (tree-of, λ t. subst (Earns (Lays pieces) x y) (t .earns) (dissection-of (t .valid))))
 
--- The two parts of a line have the area of the whole: "A cut has no width here."
+-- The two parts of a line have the area of the whole: it takes no width itself (rules 2.4 and 2.5).
 sides-area : (x y c r : ℕ) → Line x c r → c * y + r * y ≡ x * y
 sides-area x y c r l =
     let whole : c + r ≡ x = omega arith in
@@ -52,7 +52,7 @@ pub parts-area : (tall : Bool) (x y c r : ℕ) → Line (crossed tall x y) c r
 parts-area false x y c r l = sides-area x y c r l
 parts-area true x y c r l = omega (arith, sides-area y x c r l)
 
--- "it is proved that together they make width times height".
+-- Pieces and scrap have the area of x by y together (rule 2.7).
 pub areas : {pieces : List Piece} {t : Tree} {x y : ℕ} → Valid pieces t x y → pieceArea pieces t + scrapArea t x y ≡ x * y
 unfolding pieceArea scrapArea
 areas {x = x} {y = y} (Valid.line {tall = tall} {c = c} {r = r} {t = t} l m n) =
@@ -92,6 +92,6 @@ within-area {x = x} {y = y} (Valid.line {tall = tall} {c = c} {r = r} l m n) h k
 within-area {x = x} {y = y} (Valid.pieceP n) h k = leaf-few x y h k
 within-area {x = x} {y = y} Valid.scrapS h k = leaf-few x y h k
 
--- A tree of x by y, "(both at least 1)", has at most 2·x·y − 1 nodes.
+-- A tree of x by y, neither side 0, has at most 2·x·y − 1 nodes.
 pub nodes-few : {pieces : List Piece} {t : Tree} {x y : ℕ} → Valid pieces t x y → 1 ≤ x → 1 ≤ y → nodes t ≤ 2 * (x * y) - 1
 nodes-few v h k = omega (arith, within-area v h k)

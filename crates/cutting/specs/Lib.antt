@@ -1,4 +1,4 @@
--- The definitions of document 01, in its order and words. Nothing is proved here.
+-- Cutting in the words of the rules. Nothing is proved here.
 pub mod Limits
 pub mod Piece
 pub mod Dissection

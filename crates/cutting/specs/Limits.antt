@@ -1,19 +1,19 @@
--- The table of quantities and ranges. "These limits are named once and belong to the job; every check refers to those names."
+-- The limits of a job, each with its one name (rule 1.7).
 -- The code has the same names as associated constants of the job's types.
 use Prim.Native.Nat.{ℕ}
 
--- "stock side a (width), b (height): 1 to 240 units"
+-- The longest side of a sheet (rule 1.2).
 abbrev pub sideMax : ℕ
 sideMax = 240
 
--- "pieces n: 0 to 64, numbered from 1"
+-- The most pieces that a job has (rule 1.3).
 abbrev pub piecesMax : ℕ
 piecesMax = 64
 
--- "piece width p, height q: 1 to 4,095"
+-- The longest side of a piece (rule 1.4).
 abbrev pub sizeMax : ℕ
 sizeMax = 4_095
 
--- "piece value v: 1 to 65,535"
+-- The largest value of a piece (rule 1.5).
 abbrev pub valueMax : ℕ
 valueMax = 65_535

@@ -1,4 +1,4 @@
--- "One stock rectangle, a list of valued pieces, an unlimited number of each."
+-- Pieces with their numbers, sizes and values, and how they may lie (rules 1.3 to 1.5).
 use Prim.Native.Nat.{ℕ, _-_, _≤_}
 use mathlib.Core.Path.{_≡_}
 use mathlib.Core.List.{List}
@@ -18,7 +18,7 @@ sized p q v = record { width = p; height = q; value = v }
 abbrev pub noPiece : Piece
 noPiece = sized 0 0 0
 
--- "pieces n: 0 to 64, numbered from 1": piece k of the list.
+-- Piece k of the list: numbers go from 1 (rule 1.3).
 unfoldable pub pieceAt : List Piece → ℕ → Piece
 pieceAt pieces k = getD pieces (k - 1) noPiece
 
@@ -35,7 +35,7 @@ pub record Numbered (pieces : List Piece) (k p q v : ℕ) : Type 0 where
 pub record Lay : Type 1 where
   pub lies : ℕ → ℕ → ℕ → Type 0
 
--- "the grain is fixed", so each piece of a list lies as it is.
+-- Each piece of a list lies as it is, never turned (rule 2.3).
 pub record Lies (pieces : List Piece) (p q v : ℕ) : Type 0 where
   pub number : ℕ
   pub numbered : Numbered pieces number p q v
@@ -47,7 +47,7 @@ Lays pieces = record { lies = Lies pieces }
 abbrev pub Turned : Lay → Lay
 Turned lay = record { lies = λ p q v. lay .lies q p v }
 
--- "piece width p, height q: 1 to 4,095", "piece value v: 1 to 65,535"
+-- The sides and the value of a piece are within their limits (rules 1.4 and 1.5).
 pub record PieceInRange (p q v : ℕ) : Type 0 where
   pub widthLeast : 1 ≤ p
   pub widthMost : p ≤ sizeMax
@@ -59,12 +59,12 @@ pub record PieceInRange (p q v : ℕ) : Type 0 where
 abbrev pub InRange : Lay → Type 0
 InRange lay = (p q v : ℕ) → lay .lies p q v → PieceInRange p q v
 
--- A size p by q fits in x by y: "p ≤ x and q ≤ y".
+-- A size p by q fits in x by y (rule 5.1).
 pub record Fits (p q x y : ℕ) : Type 0 where
   pub wide : p ≤ x
   pub high : q ≤ y
 
--- The rectangle x by y "(both at least 1)" lies inside a by b.
+-- The rectangle x by y, neither side 0, lies inside a by b (rule 2.1).
 pub record Inside (x y a b : ℕ) : Type 0 where
   pub widthLeast : 1 ≤ x
   pub widthMost : x ≤ a

@@ -1,5 +1,4 @@
--- "P is the set of sums of one or more piece widths, repeats allowed, that are at most a; Q the same for heights and b
--- (001, Theorem 1). Zero belongs to neither."
+-- The points of P and Q (rules 3.1 to 3.3), and what narrowing a rectangle to one leaves (Herz, Theorem 1).
 use Prim.Native.Nat.{ℕ, _+_, _≤_}
 use mathlib.Core.Path.{_≡_}
 use Rattle.cutting.specs.Piece.{Lay, Turned}
@@ -11,18 +10,18 @@ pub record Width (lay : Lay) (p : ℕ) : Type 0 where
   pub value : ℕ
   pub lies : lay .lies p height value
 
--- "sums of one or more .., repeats allowed"
+-- A sum of one or more sizes, each as often as one likes (rule 3.1).
 pub data Sum (size : ℕ → Type 0) : ℕ → Type 0 where
   one : {s : ℕ} → size s → Sum size s
   more : {s r t : ℕ} → size s → Sum size r → t ≡ s + r → Sum size t
 
--- c is in P, for the stock width a.
+-- c is in P, for a sheet of width a (rules 3.1 and 3.3).
 pub record P (lay : Lay) (a c : ℕ) : Type 0 where
   pub sum : Sum (Width lay) c
   pub within : c ≤ a
   pub notZero : 1 ≤ c
 
--- d is in Q, for the stock height b: "the same for heights and b".
+-- d is in Q, for a sheet of height b: in P of the turned lay (rule 3.2).
 abbrev pub Q : Lay → ℕ → ℕ → Type 0
 Q lay b d = P (Turned lay) b d
 

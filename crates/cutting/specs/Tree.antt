@@ -1,4 +1,4 @@
--- Trees as the plan file has them: "V" c, "H" d, "P" piece number, "S" 0.
+-- Trees as the plan file has them: V and H for lines, P for a piece by its number, S for scrap (rule 8.5).
 use Prim.Native.Nat.{ℕ, _+_, _*_}
 use mathlib.Core.Path.{_≡_}
 use mathlib.Core.Bool.{Bool}
@@ -6,7 +6,7 @@ use mathlib.Core.List.{List}
 use Rattle.cutting.specs.Piece.{Piece, pieceAt, Numbered}
 use Rattle.cutting.specs.Dissection.{rest, crossed, partWidth, partHeight, Line}
 
--- "a line before its left or lower part and that before the other"
+-- A line stands before its left or lower part, and that before the other part (rule 8.6).
 pub data Tree : Type 0 where
   -- A vertical line, or a horizontal one (`tall`), at its number.
   line : (tall : Bool) → ℕ → Tree → Tree → Tree
@@ -23,7 +23,7 @@ pub data Valid (pieces : List Piece) : Tree → ℕ → ℕ → Type 0 where
   pieceP : {x y k v : ℕ} → Numbered pieces k x y v → Valid pieces (Tree.pieceP k) x y
   scrapS : {x y : ℕ} → Valid pieces Tree.scrapS x y
 
--- "Its earning is the sum over its leaves."
+-- What the leaves earn together: a piece its value, scrap nothing (rules 2.2 to 2.5).
 unfoldable pub earning : List Piece → Tree → ℕ
 earning pieces (Tree.line tall c s t) = earning pieces s + earning pieces t
 earning pieces (Tree.pieceP k) = pieceAt pieces k .value
@@ -35,13 +35,13 @@ nodes (Tree.line tall c s t) = 1 + nodes s + nodes t
 nodes (Tree.pieceP k) = 1
 nodes Tree.scrapS = 1
 
--- "piece area and scrap area. Each area is the sum over its own leaves".
+-- The area of all its piece leaves (rule 2.7).
 unfoldable pub pieceArea : List Piece → Tree → ℕ
 pieceArea pieces (Tree.line tall c s t) = pieceArea pieces s + pieceArea pieces t
 pieceArea pieces (Tree.pieceP k) = pieceAt pieces k .width * pieceAt pieces k .height
 pieceArea pieces Tree.scrapS = 0
 
--- The tree is laid on x by y.
+-- The area of all its scrap leaves, where the tree is laid on x by y (rule 2.7).
 unfoldable pub scrapArea : Tree → ℕ → ℕ → ℕ
 scrapArea (Tree.line tall c s t) x y =
     let r = rest (crossed tall x y) c in

@@ -14,7 +14,7 @@ letterP = 80
 abbrev pub letterS : ℕ
 letterS = 83
 
--- "Three bytes each: a letter and a two-byte number."
+-- A node: a letter and a number of two bytes (rule 8.5).
 abbrev pub nodeLength : ℕ
 nodeLength = 3
 
@@ -32,14 +32,14 @@ secondNumber = 2
 abbrev pub thirdNumber : ℕ
 thirdNumber = 4
 
--- "plan file to be checked: 25 to 1,048,576 bytes"
+-- How short and how long a file that is checked may be (rule 1.6).
 abbrev pub fileLeast : ℕ
 fileLeast = 25
 
 abbrev pub fileMost : ℕ
 fileMost = 1_048_576
 
--- "Last a trailer of 16 bytes that points back: D1 ..; D2 ..; the value; the sum (four bytes each)": where they stand in it, and how long the sum is.
+-- The trailer: its length, where D1, D2, the value and the sum stand in it, and how long the sum is (rule 8.7).
 abbrev pub trailerLength : ℕ
 trailerLength = 16
 
@@ -58,6 +58,6 @@ sumField = 12
 abbrev pub sumLength : ℕ
 sumLength = 4
 
--- "D1 < 9": a head and a node at least.
+-- The least D1: a head and a node (rule 7.9).
 abbrev pub distanceLeast : ℕ
 distanceLeast = headBytes + nodeLength

@@ -1,4 +1,4 @@
--- "Numbers are little-endian." Numbers of two and of four bytes, and the bytes of them.
+-- Numbers of two and of four bytes, the low byte first, and the bytes of them (rule 8.1).
 use Prim.Native.Nat.{ℕ, _+_, _*_, _/_, _%_, _<_}
 use mathlib.Core.List.{List, [], _∷_, _++_}
 use lib.ListN.{getD}

@@ -17,18 +17,17 @@ use Rattle.cutting.specs.Piece.{Inside}
 use Rattle.cutting.specs.Candidate.{Smaller}
 use Rattle.fill.specs.Filled.{Full, Bounded}
 
--- What an empty cell gets: "the largest of: 0; v of a piece with p ≤ u and q ≤ w; cell (c, w) plus cell (u−c, w) for c in P
--- with c ≤ u/2; cell (u, d) plus cell (u, w−d) for d in Q with d ≤ w/2." Executable; `worthOf-worth` ties it to the candidates.
+-- What an empty cell gets by rule 4.8. Executable; `worthOf-worth` ties it to the candidates.
 
--- "v of a piece with p ≤ u and q ≤ w", over the pieces at index 0, …, n − 1.
+-- The largest value of a piece that fits in u by w, over the pieces at index 0, …, n − 1 (rule 4.8).
 unfoldable pub fittingValue : (ℕ → ℕ) → (ℕ → ℕ) → (ℕ → ℕ) → ℕ → ℕ → ℕ → ℕ
 fittingValue width height value n u w = bestBelow (λ k. cond (fits (width k) (height k) u w) (value k) 0) n
 
--- "cell (c, w) plus cell (u−c, w) for c in P": a line at c through a side x, where a part of size c has the number `part c`.
+-- What a line at c through a side x gives where c is marked, else 0; a part of size c has the number `part c` (rule 4.8).
 unfoldable pub lineAt : (ℕ → Bool) → (ℕ → ℕ) → ℕ → ℕ → ℕ
 lineAt marked part x c = cond (marked c) (part c + part (rest x c)) 0
 
--- ".. with c ≤ u/2"
+-- The most that such a line gives up to the middle (rule 4.8).
 unfoldable pub lineValue : (ℕ → Bool) → (ℕ → ℕ) → ℕ → ℕ
 lineValue marked part x = bestBelow (λ i. lineAt marked part x (suc i)) (halfOf x)
 
@@ -57,7 +56,7 @@ pub record Raises (from x : ℕ) (g : ℕ → ℕ) (f f' : List ℕ) : Type 0 wh
 pub record Columns (from x : ℕ) (g : ℕ → ℕ) (f : List ℕ) : Type 0 where
   pub at : (u : ℕ) → from ≤ u → u ≤ x → getD f u 0 ≡ g u
 
--- "v of a piece" or "cell (u, d) plus cell (u, w−d)": everything but the lines across.
+-- What a piece or a line up gives: everything of rule 4.8 but the lines across.
 unfoldable pub floorBy : (ℕ → ℕ) → (ℕ → ℕ) → (ℕ → ℕ) → ℕ → (ℕ → Bool) → (ℕ → ℕ → ℕ) → ℕ → ℕ → ℕ
 floorBy width height value n inQ cell w u = max (fittingValue width height value n u w) (lineValue inQ (λ d. cell u d) w)
 
@@ -79,7 +78,7 @@ pub record FullBefore (a : ℕ) (t : List ℕ) (x w from : ℕ) : Type 0 where
   pub most : from ≤ x + 1
   pub full : (u : ℕ) → 1 ≤ u → u < from → cellOf a t u w ≡ empty → ⊥
 
--- "each empty cell (u, w) with u ≤ x and w ≤ y gets the largest of: .. Filled cells and cells outside stay."
+-- The table once x by y has been asked (rules 4.8 and 4.9).
 
 -- No order of loops: a cell's final number is its own, or, where it is empty, its worth among the final numbers.
 
@@ -116,7 +115,7 @@ pub record RowReady (rows : Rows) (a b x w : ℕ) (t : List ℕ) : Type 0 where
   pub bounded : Bounded (cellOf a t) x w
   pub valued : Valued rows
 
--- A box can be filled: no cell of it exceeds its bound (refusal 7).
+-- A box can be filled: no cell of it exceeds its bound (rule 7.7).
 pub record BoxReady (rows : Rows) (a b x y : ℕ) (t : List ℕ) : Type 0 where
   pub holds : Holds a b t
   pub inside : Inside x y a b

@@ -1,3 +1,3 @@
--- The filled table in the document's words.
+-- The filled table in the words of the rules.
 pub mod Filled
 pub mod Inner

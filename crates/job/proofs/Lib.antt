@@ -1,4 +1,4 @@
--- The laws of the job: its pieces, its range, its changes, its rows and its block.
+-- The laws of the job: its pieces, its range, its changes and its block.
 pub mod Pieces
 pub mod Range
 pub mod Changed

@@ -77,7 +77,7 @@ module _ (job : Job) where
       )
       (says-and (within-says (job .width) sideMax) (says-and (within-says (job .height) sideMax) (says-and (says-le (job .count) piecesMax) pieces-say)))
 
--- The job of zeros is out of range: "every later call refuses" it "with 1".
+-- The job of zeros is out of range, so every later call refuses it (rules 4.17 and 7.1).
 pub zeros-refused : jobInRange zeroJob ≡ false
 unfolding zeroJob jobOf
 zeros-refused = says-no (job-says zeroJob) (λ i. omega (arith, i .widthLeast))

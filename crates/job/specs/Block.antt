@@ -1,4 +1,4 @@
--- "the job block: width, height, n (two bytes each), then p, q, v (two bytes each) for every piece"
+-- The job block, written and read: a head of three numbers, then three for each piece (rule 8.4).
 use Prim.Native.Nat.{ℕ, _+_, _*_, _≤_, _<_}
 use mathlib.Core.Path.{_≡_}
 use mathlib.Core.List.{List, [], _∷_, _++_}
@@ -47,7 +47,7 @@ pieceIn s k = pieceFrom s (blockLength k)
 unfoldable pub jobIn : List ℕ → Job
 jobIn s = jobOf (number2Of s 0) (number2Of s secondNumber) (byIndex (pieceIn s) (countIn s))
 
--- It isn't "shorter than 6 bytes", its length is 6 + 6n, and n isn't above 64.
+-- The bytes can be read as a block: there is a head, n is at most 64, and the length is 6 + 6n (rule 4.14).
 pub record BlockShape (s : List ℕ) : Type 0 where
   pub head : headBytes ≤ length s
   pub most : countIn s ≤ piecesMax

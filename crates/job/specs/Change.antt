@@ -1,4 +1,4 @@
--- "Add, correct piece k, remove piece k": the job after the change.
+-- The job after an add, a correct or a remove (rules 4.5 to 4.7).
 use Prim.Native.Nat.{ℕ}
 use Rattle.cutting.specs.Change.{added, corrected, removed}
 use Rattle.job.specs.declared.Piece.{Piece as Record}

@@ -13,7 +13,7 @@ use Rattle.job.specs.declared.Blocked.{Blocked}
 use Rattle.job.specs.Block.{blockLength, countIn, jobIn}
 use Rattle.fields.specs.Format.{headBytes}
 
--- "a side, n or a piece of the job is outside its range", as tests. A quantity is in the range 1 to most.
+-- The ranges of a job (rules 1.2 to 1.5) as tests. A quantity is in the range 1 to most.
 abbrev pub within : ℕ → ℕ → Bool
 within n most = leb 1 n && leb n most
 
@@ -26,7 +26,7 @@ piecesInRange job = allBelow (λ k. pieceInRange (getD (job .pieces) k noRecord)
 unfoldable pub jobInRange : Job → Bool
 jobInRange job = within (job .width) sideMax && (within (job .height) sideMax && (leb (job .count) piecesMax && piecesInRange job))
 
--- Where what stands at index k came from, once the record at index gap is left out. "later pieces move down by one number"
+-- Where what stands at index k came from, once the record at index gap is left out (rule 4.7).
 unfoldable pub movedFrom : ℕ → ℕ → ℕ
 movedFrom gap k = cond (ltb k gap) k (k + 1)
 
@@ -34,6 +34,6 @@ movedFrom gap k = cond (ltb k gap) k (k + 1)
 unfoldable pub blockShape : List ℕ → Bool
 blockShape s = leb headBytes (length s) && (leb (countIn s) piecesMax && eqb (length s) (blockLength (countIn s)))
 
--- The job of a block of that shape; any other "counts as refusal 1": a job of zeros.
+-- The job of a block of that shape; any other is none and gives a job of zeros (rule 4.14).
 unfoldable pub fromBlock : List ℕ → Blocked
 fromBlock s = cond (blockShape s) (record { ok = true; job = jobIn s }) (record { ok = false; job = zeroJob })

@@ -20,7 +20,7 @@ recordOf p = record { width = p .width; height = p .height; value = p .value }
 abbrev pub noRecord : Record
 noRecord = recordOf noPiece
 
--- The pieces of a job, its first n records. "Records past n in a job aren't read"
+-- The pieces of a job: its first n records, and none behind them (rule 4.12).
 unfoldable pub piecesOf : Job → List Piece
 piecesOf job = byIndex (λ k. pieceOf (getD (job .pieces) k noRecord)) (job .count)
 
@@ -28,11 +28,11 @@ piecesOf job = byIndex (λ k. pieceOf (getD (job .pieces) k noRecord)) (job .cou
 abbrev pub layOf : Job → Lay
 layOf job = Lays (piecesOf job)
 
--- The job with these sides and pieces, at most 64. "an accepted open, add, correct or remove returns them as zeros"
+-- The job with these sides and pieces, at most 64; the records behind them are zeros (rule 4.12).
 unfoldable pub jobOf : ℕ → ℕ → List Piece → Job
 jobOf width height pieces = record { width = width; height = height; count = length pieces; pieces = byIndex (λ k. recordOf (getD pieces k noPiece)) piecesMax }
 
--- A "job of zeros, which every later call refuses".
+-- The job of zeros that a refused open gives (rule 4.17).
 unfoldable pub zeroJob : Job
 zeroJob = jobOf 0 0 []
 

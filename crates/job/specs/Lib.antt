@@ -1,4 +1,4 @@
--- The job as a value, in document 01's words.
+-- The job as a value, in the words of the rules.
 pub mod Job
 pub mod Range
 pub mod Change

@@ -1,4 +1,4 @@
--- "a side, n or a piece of the job is outside its range"
+-- The ranges of a job (rules 1.2 to 1.5); one that is out of them is refused with 1 (rule 7.1).
 use Prim.Native.Nat.{_≤_}
 use Rattle.cutting.specs.Limits.{sideMax, piecesMax}
 use Rattle.cutting.specs.Piece.{InRange}
@@ -7,11 +7,11 @@ use Rattle.job.specs.Job.{layOf}
 
 -- The job is in range: its sides, n, and its pieces.
 pub record JobInRange (job : Job) : Type 0 where
-  -- "stock side a (width), b (height): 1 to 240 units"
+  -- The sides of the sheet (rule 1.2).
   pub widthLeast : 1 ≤ job .width
   pub widthMost : job .width ≤ sideMax
   pub heightLeast : 1 ≤ job .height
   pub heightMost : job .height ≤ sideMax
-  -- "pieces n: 0 to 64"
+  -- The number of pieces (rule 1.3).
   pub countMost : job .count ≤ piecesMax
   pub pieces : InRange (layOf job)

@@ -1,4 +1,4 @@
-// The job by value: one stock rectangle and up to 64 pieces, with their limits.
+// The job by value: one sheet and up to 64 pieces, with their limits.
 // change.rt: a piece more, changed, less; block.rt: the job block.
 ghost use mathlib.Core.Path.{_≡_};
 ghost use mathlib.Core.List.{[]};

@@ -1,9 +1,9 @@
 -- Any depth gives the same: a recursion that goes down to smaller ones has its own equation, without a depth. To use it, define (specs)
---   partAt pieces s = deep (λ f. around (f .sides)) Part.Broken (λ read f. partBy read (nodeAt pieces s f))
+--   partAt pieces s = deep around Part.Broken (λ read f. partBy pieces read f (nodeAt pieces s f))
 -- and prove, where partBy-same says that partBy asks `read` for smaller frames alone,
---   part-own : (f : Frame) → partAt pieces s f ≡ partBy (partAt pieces s) (nodeAt pieces s f)
+--   part-own : (f : Frame) → partAt pieces s f ≡ partBy pieces (partAt pieces s) f (nodeAt pieces s f)
 --   unfolding partAt
---   part-own = deep-own _ _ _ (λ R T f same. partBy-same R T f same)
+--   part-own = deep-own _ _ _ (λ R S f same. partBy-same R S pieces s f (nodeAt pieces s f) (node-tells pieces s f refl) same)
 use Prim.Native.Nat.{ℕ, zero, suc, _<_}
 use mathlib.Core.Path.{_≡_, sym, _∙_, subst}
 use native.Mathlib.Omega.{arith}

@@ -1,4 +1,4 @@
--- A list of refusals: "Numbers we refuse with", row by row in the order in which they are looked at. "An accepted call has number 0."
+-- A list of refusals, row by row in the order in which a call looks at them; 0 where it is accepted (rules 4.15 and 4.16).
 use Prim.Native.Nat.{ℕ}
 use mathlib.Core.List.{List, [], _∷_}
 use mathlib.Core.Logic.{_⊎_}

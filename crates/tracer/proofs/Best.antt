@@ -25,7 +25,7 @@ module _ {pieces : List Piece} {a b : ℕ} (cell : ℕ → ℕ → ℕ) where
   struck (Candidate.vertical {c = c} {r = r} t) e z p q f = p c (record { far = r; tried = t; sum = sym e })
   struck (Candidate.horizontal {d = d} {r = r} t) e z p q f = q d (record { far = r; tried = t; sum = sym e })
 
--- "On a table kept so, refusal 7 never arises": where every cell of the box holds its best value, each has a tree by the rules.
+-- Where every cell of the box holds its best value, each has a tree by the rules: on a kept table rule 6.6 never strikes.
 pub best-traced : {pieces : List Piece} {rows : Rows} {a b : ℕ} → Hold rows pieces a b → InRange (Lays pieces) → (cell : ℕ → ℕ → ℕ) (x y : ℕ) → x ≤ a → y ≤ b
     → ((u w : ℕ) → Inside u w x y → Best (Lays pieces) u w (cell u w)) → (u w : ℕ) → Inside u w x y → (tree : Tree) × TreeBy pieces a b cell u w tree
 best-traced {pieces} {rows} {a} {b} hold range cell x y g h best =

@@ -30,7 +30,7 @@ pub trim : (tall : Bool) {p x : ℕ} (t : Tree) → p ≤ x → (u : Tree) × Tr
 trim tall {p} {x} t h = ⊎-elim (λ l. (t, Trimmed.whole (omega arith))) (λ l. (Tree.line tall p t Tree.scrapS, Trimmed.cut l)) (le-or-lt x p)
 
 module _ (rows : Rows) (cell : ℕ → ℕ → ℕ) where
-  -- Rule 6 strikes nowhere in a part, and this is its tree.
+  -- Rule 6.6 strikes nowhere in a part, and this is its tree.
   abbrev IsTraced : WantedPart → Tree → Type 0
   IsTraced p tree = (traces rows cell p ≡ true) × (traced rows cell p ≡ tree)
 
@@ -48,7 +48,7 @@ module _ (rows : Rows) (cell : ℕ → ℕ → ℕ) where
   unfolding stepIn tracesBy treeBy
   waste-traced x y = own (part x y waste) refl refl refl
 
-  -- A piece is cut out of a part by the lines of rule 5.
+  -- A piece is cut out of a part by the lines of rule 6.5.
   module _ (k : ℕ) (first : 1 ≤ k) (last : k < waste) where
     abbrev p : ℕ
     p = rows .width (k - 1)
@@ -116,7 +116,7 @@ module _ {pieces : List Piece} {rows : Rows} {a b : ℕ} (hold : Hold rows piece
   unfolding stepIn
   free-step {x} {y} i s = strikes-only hold cell x y i s
 
-  -- Rule 5: the piece is cut out as it says.
+  -- Rule 6.5: the piece is cut out as it says.
   fitting-traced : {x y k : ℕ} (i : Inside x y a b) {s t : Tree} → stepIn rows cell (whole x y) ≡ cutOut rows x y k → (f : Fitting pieces a b cell x y k)
       → Trimmed true (f .height) y (Tree.pieceP k) s → Trimmed false (f .width) x s t → IsTraced rows cell (whole x y) t
   fitting-traced {x} {y} {k} i {s} {t} e f up across =
@@ -188,6 +188,6 @@ module _ {pieces : List Piece} {rows : Rows} {a b : ℕ} (hold : Hold rows piece
   pub rules-only : {x y : ℕ} {s t : Tree} → Inside x y a b → TreeBy pieces a b cell x y s → TreeBy pieces a b cell x y t → s ≡ t
   rules-only i s t = sym (rules-trace i s .1) ∙ rules-trace i t .1
 
-  -- Rule 6 strikes nowhere exactly where there is a tree by the rules.
+  -- Rule 6.6 strikes nowhere exactly where there is a tree by the rules.
   pub traces-says : (x y : ℕ) → Inside x y a b → Says (traces rows cell (whole x y)) ((tree : Tree) × TreeBy pieces a b cell x y tree)
   traces-says x y i = record { means = λ e. (traced rows cell (whole x y), traced-by-rules x y i e); found = λ t. rules-trace i (t .1) .0 }

@@ -131,7 +131,7 @@ module _ {pieces : List Piece} {rows : Rows} {a b : ℕ} (hold : Hold rows piece
     rule6 : (cell x y ≡ 0 → ⊥) → None (Exact pieces a b cell x y) → None (AddsUp pieces a b cell false x y) → None (AddsUp pieces a b cell true x y)
         → None (Fitting pieces a b cell x y) → Strikes Step.Struck
 
-  -- The steps of rules 2 to 6, by the numbers that the searches answer.
+  -- The steps of rules 6.2 to 6.6, by the numbers that the searches answer.
   abbrev laterRules : ℕ → ℕ → ℕ → ℕ → Step
   laterRules e c d f =
       strikes e Step.Piece (strikes c (λ k. Step.Line false k free) (strikes d (λ k. Step.Line true k free) (strikes f (cutOut rows x y) Step.Struck)))

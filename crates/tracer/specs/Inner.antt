@@ -60,7 +60,7 @@ unfoldable pub suits : Rows → Bool → ℕ → ℕ → ℕ → ℕ → Bool
 suits rows exact number x y k =
     eqb (rows .value k) number && cond exact (eqb (rows .width k) x && eqb (rows .height k) y) (fits (rows .width k) (rows .height k) x y)
 
--- "the first piece of exactly this size with v = V", "the first piece that fits with v = V", by its number; 0 where there is none.
+-- The first piece of value V of exactly this size, or else that fits, by its number; 0 where there is none (rules 6.2 and 6.5).
 unfoldable pub firstPiece : Rows → Bool → ℕ → ℕ → ℕ → ℕ
 firstPiece rows exact number x y = firstNumber (suits rows exact number x y) (rows .count)
 
@@ -68,11 +68,11 @@ firstPiece rows exact number x y = firstNumber (suits rows exact number x y) (ro
 abbrev pub marks : Rows → Bool → ℕ → Bool
 marks rows tall c = cond tall (rows .inQ c) (rows .inP c)
 
--- Is c marked, and do the two cells of a line at c "add to V"?
+-- Is c marked, and do the two cells of a line at c add up to V?
 unfoldable pub addsTo : Rows → (ℕ → ℕ → ℕ) → Bool → ℕ → ℕ → ℕ → ℕ → Bool
 addsTo rows cell tall number x y c = marks rows tall c && eqb (twoCells cell tall x y c) number
 
--- "the least c in P, c ≤ x/2, whose two cells add to V"; 0 where there is none.
+-- The least marked c up to half whose two cells add up to V; 0 where there is none (rules 6.3 and 6.4).
 unfoldable pub leastLine : Rows → (ℕ → ℕ → ℕ) → Bool → ℕ → ℕ → ℕ → ℕ
 leastLine rows cell tall number x y = firstNumber (λ i. addsTo rows cell tall number x y (suc i)) (halfOf (crossed tall x y))
 
@@ -80,11 +80,11 @@ leastLine rows cell tall number x y = firstNumber (λ i. addsTo rows cell tall n
 unfoldable pub trimmedTo : Bool → ℕ → ℕ → ℕ → Step → Step
 trimmedTo tall size side wanted after = cond (leb 1 size && ltb size side) (Step.Line tall size wanted) after
 
--- "vertical line at p where p < x, in the left part a horizontal line at q where q < y, then the piece": the next step to piece k.
+-- The next step to piece k: a vertical line to its width, else a horizontal one to its height, else the piece (rule 6.5).
 unfoldable pub cutOut : Rows → ℕ → ℕ → ℕ → Step
 cutOut rows x y k = trimmedTo false (rows .width (k - 1)) x k (trimmedTo true (rows .height (k - 1)) y k (Step.Piece k))
 
--- A rule strikes where it found a number, "else" the rules after it do.
+-- A rule strikes where it found a number, or else the rules after it do.
 unfoldable pub strikes : ℕ → (ℕ → Step) → Step → Step
 strikes zero step after = after
 strikes (suc k) step after = step (suc k)
@@ -92,18 +92,18 @@ strikes (suc k) step after = step (suc k)
 -- The order of the rules is this function; of what computes nothing else knows it. The cell holds `number`, which is V.
 unfoldable pub ruled : Rows → (ℕ → ℕ → ℕ) → ℕ → ℕ → ℕ → Step
 ruled rows cell x y number =
-    -- "(1) V = 0: scrap."
+    -- Rule 6.1: scrap.
     cond (eqb number 0)
     Step.Scrap
-    -- "(2) Else the first piece of exactly this size with v = V."
+    -- Rule 6.2: the first piece of exactly this size.
     (strikes (firstPiece rows true number x y) Step.Piece
-    -- "(3) Else the least c in P, c ≤ x/2, whose two cells add to V: vertical line, both parts by these rules."
+    -- Rule 6.3: the least vertical line, and both parts free.
     (strikes (leastLine rows cell false number x y) (λ c. Step.Line false c free)
-    -- "(4) Else the same with Q: horizontal line."
+    -- Rule 6.4: the least horizontal line, and both parts free.
     (strikes (leastLine rows cell true number x y) (λ d. Step.Line true d free)
-    -- "(5) Else the first piece that fits with v = V"
+    -- Rule 6.5: the first piece that fits, cut out.
     (strikes (firstPiece rows false number x y) (cutOut rows x y)
-    -- "(6) Else refusal 7."
+    -- Rule 6.6: none of these.
     Step.Struck))))
 
 -- The next step in a part.
@@ -113,16 +113,16 @@ stepIn rows cell p =
     (ruled rows cell (p .width) (p .height) (cell (p .width) (p .height)))
     (cond (eqb (p .wanted) waste) Step.Scrap (cutOut rows (p .width) (p .height) (p .wanted)))
 
--- "The tree for x by y" as it computes, and its length in the file.
+-- The tree for x by y as it computes, and its length in the file.
 
--- The tree for a step, where `part` is the tree of a part. It is scrap where rule 6 strikes.
+-- The tree for a step, where `part` is the tree of a part. It is scrap where rule 6.6 strikes.
 unfoldable pub treeBy : (WantedPart → Tree) → WantedPart → Step → Tree
 treeBy part p Step.Scrap = Tree.scrapS
 treeBy part p (Step.Piece k) = Tree.pieceP k
 treeBy part p (Step.Line tall c wanted) = Tree.line tall c (part (nearWanted tall c wanted p)) (part (farWanted tall c wanted p))
 treeBy part p Step.Struck = Tree.scrapS
 
--- Does rule 6 strike nowhere, where `part` says it of a part?
+-- Does rule 6.6 strike nowhere, where `part` says it of a part?
 unfoldable pub tracesBy : (WantedPart → Bool) → WantedPart → Step → Bool
 tracesBy part p Step.Scrap = true
 tracesBy part p (Step.Piece k) = true
@@ -133,14 +133,14 @@ tracesBy part p Step.Struck = false
 abbrev pub sidesOf : WantedPart → ℕ
 sidesOf p = p .width + p .height
 
--- The tree by the rules, and whether rule 6 strikes nowhere in it. `traced-own` and `traces-own` are their equations.
+-- The tree by the rules, and whether rule 6.6 strikes nowhere in it. `traced-own` and `traces-own` are their equations.
 unfoldable pub traced : Rows → (ℕ → ℕ → ℕ) → WantedPart → Tree
 traced rows cell = deep sidesOf Tree.scrapS (λ part p. treeBy part p (stepIn rows cell p))
 
 unfoldable pub traces : Rows → (ℕ → ℕ → ℕ) → WantedPart → Bool
 traces rows cell = deep sidesOf false (λ part p. tracesBy part p (stepIn rows cell p))
 
--- The number of bytes of the tree's nodes, 0 where rule 6 strikes.
+-- The number of bytes of the tree's nodes, 0 where rule 6.6 strikes.
 unfoldable pub measured : Rows → (ℕ → ℕ → ℕ) → WantedPart → ℕ
 measured rows cell p = cond (traces rows cell p) (length (encode (traced rows cell p))) 0
 
@@ -151,7 +151,7 @@ nodeOf (Step.Piece k) = node letterP k
 nodeOf (Step.Line tall c wanted) = node (letterOf tall) c
 nodeOf Step.Struck = node letterS 0
 
--- The length of a step that is no line; 0 where rule 6 strikes.
+-- The length of a step that is no line; 0 where rule 6.6 strikes.
 unfoldable pub leafLength : Step → ℕ
 leafLength Step.Scrap = nodeLength
 leafLength (Step.Piece k) = nodeLength

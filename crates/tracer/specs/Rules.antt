@@ -1,4 +1,4 @@
--- "The tree for x by y, with V the number in its cell:" the tree rules in their order.
+-- The tree that is planned for x by y, where V is the number in its cell: rules 6.1 to 6.6 in their order.
 use Prim.Native.Nat.{ℕ, _+_, _<_}
 use mathlib.Core.Bool.{Bool, true, false, cond}
 use mathlib.Core.Path.{_≡_}
@@ -9,7 +9,7 @@ use Rattle.cutting.specs.Points.{P}
 use Rattle.cutting.specs.Candidate.{Tried}
 use Rattle.cutting.specs.Tree.{Tree}
 
--- "the first", "the least": k is in the set, and nothing before it is. "Else": nothing is in the set.
+-- The first piece, the least line: k is in the set, and nothing before it is. None: nothing is in the set (rules 6.2 to 6.5).
 pub record Least (S : ℕ → Type 0) (k : ℕ) : Type 0 where
   pub holds : S k
   pub least : (j : ℕ) → j < k → S j → ⊥
@@ -17,7 +17,7 @@ pub record Least (S : ℕ → Type 0) (k : ℕ) : Type 0 where
 abbrev pub None : (ℕ → Type 0) → Type 0
 None S = (k : ℕ) → S k → ⊥
 
--- "line at p where p < x .. the parts cut off are scrap": the tree of a part p of a side x, and that of the whole.
+-- A trim to p of a side x, unless p is all of it, with scrap beyond (rule 6.5): the tree of the part, and that of the whole.
 pub data Trimmed (tall : Bool) (p x : ℕ) (part : Tree) : Tree → Type 0 where
   cut : p < x → Trimmed tall p x part (Tree.line tall p part Tree.scrapS)
   whole : p ≡ x → Trimmed tall p x part part
@@ -28,7 +28,7 @@ PointOf lay a b tall c = P (cond tall (Turned lay) lay) (cond tall b a) c
 
 -- The sheet is a by b, and `cell x y` is the number in cell (x, y).
 module _ (pieces : List Piece) (a b : ℕ) (cell : ℕ → ℕ → ℕ) where
-  -- "piece of exactly this size with v = V"
+  -- Piece k is exactly x by y and its value is V (rule 6.2).
   abbrev pub Exact : ℕ → ℕ → ℕ → Type 0
   Exact x y k = Numbered pieces k x y (cell x y)
 
@@ -36,13 +36,13 @@ module _ (pieces : List Piece) (a b : ℕ) (cell : ℕ → ℕ → ℕ) where
   abbrev pub partCell : Bool → ℕ → ℕ → ℕ → ℕ
   partCell tall x y c = cell (partWidth tall x c) (partHeight tall y c)
 
-  -- "c in P, c ≤ x/2, whose two cells add to V", and "the same with Q".
+  -- A line at a point c, up to half, whose two cells add up to V: of P, or of Q where it is `tall` (rules 6.3 and 6.4).
   pub record AddsUp (tall : Bool) (x y c : ℕ) : Type 0 where
     pub far : ℕ
     pub tried : Tried (PointOf (Lays pieces) a b tall) (crossed tall x y) c far
     pub sum : partCell tall x y c + partCell tall x y far ≡ cell x y
 
-  -- "piece that fits with v = V": piece k is `width` by `height`.
+  -- Piece k, which is `width` by `height`, fits in x by y and its value is V (rule 6.5).
   pub record Fitting (x y k : ℕ) : Type 0 where
     pub width : ℕ
     pub height : ℕ
@@ -51,20 +51,19 @@ module _ (pieces : List Piece) (a b : ℕ) (cell : ℕ → ℕ → ℕ) where
 
   -- The tree for x by y.
   pub data TreeBy : ℕ → ℕ → Tree → Type 0 where
-    -- "(1) V = 0: scrap."
+    -- Rule 6.1: V is 0, and all is scrap.
     rule1 : {x y : ℕ} → cell x y ≡ 0 → TreeBy x y Tree.scrapS
-    -- "(2) Else the first piece of exactly this size with v = V."
+    -- Rule 6.2: the first piece of exactly this size and value.
     rule2 : {x y k : ℕ} → (cell x y ≡ 0 → ⊥) → Least (Exact x y) k → TreeBy x y (Tree.pieceP k)
-    -- "(3) Else the least c in P, c ≤ x/2, whose two cells add to V: vertical line, both parts by these rules."
+    -- Rule 6.3: the least point of P up to half whose two cells add up: a vertical line, and both parts by the rules.
     rule3 : {x y c : ℕ} {s t : Tree} → (cell x y ≡ 0 → ⊥) → None (Exact x y) → Least (AddsUp false x y) c
         → TreeBy c y s → TreeBy (rest x c) y t → TreeBy x y (Tree.line false c s t)
-    -- "(4) Else the same with Q: horizontal line."
+    -- Rule 6.4: the least point of Q likewise: a horizontal line, and both parts by the rules.
     rule4 : {x y d : ℕ} {s t : Tree} → (cell x y ≡ 0 → ⊥) → None (Exact x y) → None (AddsUp false x y) → Least (AddsUp true x y) d
         → TreeBy x d s → TreeBy x (rest y d) t → TreeBy x y (Tree.line true d s t)
-    -- "(5) Else the first piece that fits with v = V: vertical line at p where p < x, in the left part a horizontal line at q where
-    -- q < y, then the piece; the parts cut off are scrap."
+    -- Rule 6.5: the first piece that fits and has this value, trimmed to its width by a vertical line, then to its height.
     rule5 : {x y k : ℕ} {s t : Tree} → (cell x y ≡ 0 → ⊥) → None (Exact x y) → None (AddsUp false x y) → None (AddsUp true x y)
         → (first : Least (Fitting x y) k)
         → Trimmed true (first .holds .height) y (Tree.pieceP k) s → Trimmed false (first .holds .width) x s t → TreeBy x y t
 
--- "(6) Else refusal 7.": there is no such tree.
+-- Rule 6.6: where none of them strikes, there is no such tree.

@@ -35,7 +35,7 @@ fn beyond(wanted: u16) -> u16
     WASTE
 }
 
-// The length of a step that is no line; 0 where rule 6 strikes.
+// The length of a step that is no line; 0 where rule 6.6 strikes.
 fn leaf_length(step: Step) -> usize
     ensures { λ r. ⌜ r ≡ leafLength step ⌝ }
 {
@@ -61,7 +61,7 @@ fn together(near: usize, far: usize) -> usize
     NODE_LENGTH + near + far
 }
 
-// The number of bytes that the nodes of a part's tree take, 0 where rule 6 strikes in it.
+// The number of bytes that the nodes of a part's tree take, 0 where rule 6.6 strikes in it.
 pub fn measure(board: &Board, cells: &[u32], width: usize, height: usize, wanted: u16) -> usize
     requires { ⌜ Traceable (now board) (now cells) (record { width = width; height = height; wanted = wanted }) ⌝ }
     ensures { λ r. ⌜ r ≡ measured (rowsOn (now (board .entry))) (cellOf (widthOn (now (board .entry))) (now (cells .entry))) (record { width = width; height = height; wanted = wanted }) ⌝ }
@@ -109,7 +109,7 @@ fn letter_of(tall: bool) -> u8
     VERTICAL
 }
 
-// Writes the node of a step. Where rule 6 strikes nothing is written by anybody; scrap stands for it here.
+// Writes the node of a step. Where rule 6.6 strikes nothing is written by anybody; scrap stands for it here.
 fn write_step(o: &mut [u8], at: usize, step: Step) -> usize
     requires { ⌜ at + nodeLength ≤ length (now o) ⌝ }
     ensures { λ r. ⌜ Wrote (now (o .entry)) at (nodeOf step) r (now (o .exit)) ⌝ }

@@ -1,4 +1,4 @@
--- `cells::place` is the place of document 01, and nothing overflows within 240 by 240.
+-- `cells::place` is the index of rule 4.1, and nothing overflows within 240 by 240.
 use native.Mathlib.Omega.{arith}
 use borrow.Author.Needs.{needs}
 use Rattle.cells.specs.Cells.{place}

@@ -261,6 +261,6 @@ accepts-exactly file bytes a =
         ap (λ (l : List ℕ). answer (checked l)) (p .bytes)
         ∙ (sym (ap answer (plan-accepted (p .note) (p .job) (p .tree) (p .range) (p .valid) most)) ∙ sym (p .answers))
 
--- "it is proved that together they make width times height"
+-- Both areas together make the rectangle of the block (rule 2.7).
 pub plan-areas : {file : List ℕ} {a : Answer} (p : PlanFile file a) → a .pieceArea + a .scrapArea ≡ p .job .width * p .job .height
 plan-areas p = ap (λ (b : Answer). b .pieceArea + b .scrapArea) (p .answers) ∙ areas (p .valid)

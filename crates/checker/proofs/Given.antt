@@ -159,6 +159,6 @@ module _ (file : List ℕ) (bytes : Bytes file) where
       judges file (framed-true f) (sum-true s) refl (fits-found file f j) (ap (nodesRead file) (sym (fits-job file f j)))
       (judged-yes file (nodes-exactly file bytes j (trailerAt file) t .1 o) refl v refl)
 
-  -- "Exactly when": each answer, the refusals 9 to 13 and the accepted ones.
+  -- When each answer is given, exactly: the refusals (rules 7.9 to 7.13) and the accepted ones (rule 8.11).
   pub given-exactly : (r : Checked) → (checked file ≡ r) ↔ Given file r
   given-exactly r = (λ e. subst (Given file) e given, λ g. sym (only g))

@@ -8,8 +8,7 @@ use Rattle.fields.specs.Format.{fileLeast, fileMost, distanceLeast}
 use Rattle.checker.specs.Fields.{trailerAt, blockDistance}
 use Rattle.checker.specs.declared.Checked.{Checked}
 
--- The paper's number and values for each case of the answer. "An accepted call has number 0. A refusal returns its number with
--- value, count, lengths and areas 0".
+-- The number and the values of each case of the answer (rule 4.15).
 pub record Answer : Type 0 where
   pub number : ℕ
   pub value : ℕ

@@ -1,5 +1,4 @@
--- "Last a trailer of 16 bytes that points back: D1, the distance from the trailer's start to the job block; D2, that to the
--- first node; the value; the sum (four bytes each)."
+-- The fields of a plan file, read from its end: the trailer (rule 8.7), and the parts that it points back to (rule 8.2).
 use Prim.Native.Nat.{ℕ, _+_, _-_}
 use mathlib.Core.List.{List}
 use lib.ListN.{length, take, drop}
@@ -29,14 +28,14 @@ statedValue file = fieldAt file valueField
 abbrev pub statedSum : List ℕ → ℕ
 statedSum file = fieldAt file sumField
 
--- "A free note of any bytes may come first", as many as there are before the job block.
+-- The note is all that stands before the job block (rule 8.3).
 abbrev pub noteLength : List ℕ → ℕ
 noteLength file = trailerAt file - blockDistance file
 
 abbrev pub nodesAt : List ℕ → ℕ
 nodesAt file = trailerAt file - nodesDistance file
 
--- The bytes "from the job block up to the sum field".
+-- The bytes that the sum covers (rule 8.9).
 unfoldable pub summedBytes : List ℕ → List ℕ
 summedBytes file = take (blockDistance file + sumField) (drop (noteLength file) file)
 

@@ -1,4 +1,4 @@
--- "Numbers we refuse with", 9 to 13: which answer a file is given, and exactly when, in the list's words and order.
+-- Which answer a file is given, and exactly when: rules 7.9 to 7.13 in their order, or what check says of a plan file.
 use Prim.Native.Nat.{ℕ, _+_}
 use mathlib.Core.Path.{_≡_}
 use mathlib.Core.List.{List}
@@ -12,7 +12,7 @@ use Rattle.checker.specs.Fields.{trailerAt, blockDistance, nodesDistance
 use Rattle.checker.specs.Checked.{Framed, wholeSheet}
 use Rattle.checker.specs.declared.Checked.{Checked}
 
--- The running sum does not differ.
+-- The sum in the trailer is that of the bytes that it covers (rule 8.9).
 abbrev pub SumTrue : List ℕ → Type 0
 SumTrue file = sumOf (summedBytes file) ≡ statedSum file
 
@@ -25,19 +25,19 @@ pub record JobFits (file : List ℕ) : Type 0 where
 abbrev pub NodesObey : List ℕ → Tally → Type 0
 NodesObey file tally = ReadAs (piecesOf (jobAt file)) (beforeTrailer file) (wholeSheet (jobAt file) (nodesAt file)) (trailerAt file) tally
 
--- "Checked in the order of the numbers."
+-- The first number that applies, or the answer (rule 4.16).
 pub data Given (file : List ℕ) : Checked → Type 0 where
-  -- "file length out of range, D1 < 9, or D1 > length − 16"
+  -- Rule 7.9: the file isn't framed.
   nine : (Framed file → ⊥) → Given file (Checked.Refused notFramed)
-  -- "the running sum differs"
+  -- Rule 7.10: the sum isn't true.
   ten : Framed file → (SumTrue file → ⊥) → Given file (Checked.Refused sumDiffers)
-  -- "job block out of range, or D1 isn't 6 + 6n + D2"
+  -- Rule 7.11: the job doesn't fit.
   eleven : Framed file → SumTrue file → (JobFits file → ⊥) → Given file (Checked.Refused jobOutOfRange)
-  -- "the nodes break a rule below"
+  -- Rule 7.12: the nodes don't obey, whatever they are said to add up to.
   twelve : Framed file → SumTrue file → JobFits file → ((t : Tally) → NodesObey file t → ⊥) → Given file (Checked.Refused nodesBroken)
-  -- "the stated value isn't the sum of the leaves"
+  -- Rule 7.13: the leaves earn another value than the trailer says.
   thirteen : {t : Tally} → Framed file → SumTrue file → JobFits file → NodesObey file t → (t .value ≡ statedValue file → ⊥)
       → Given file (Checked.Refused valueDiffers)
-  -- "An accepted file answers value, note length, piece area and scrap area."
+  -- Rule 4.11: none of these, and what the file is answered with.
   accepted : {t : Tally} → Framed file → SumTrue file → JobFits file → NodesObey file t → t .value ≡ statedValue file
       → Given file (Checked.Accepted (t .value) (noteLength file) (t .pieces) (t .scrap))

@@ -19,23 +19,23 @@ use Rattle.checker.specs.Checked.{wholeSheet}
 
 -- The check: refusals 9 to 13 in the order of their numbers, and the answer.
 
--- 9: "file length out of range, D1 < 9, or D1 > length − 16"
+-- Rule 7.9: the length is in its range, and D1 is 9 at least and points into the file.
 unfoldable pub framed : List ℕ → Bool
 framed file =
     leb fileLeast (length file) && (leb (length file) fileMost && (leb distanceLeast (blockDistance file) && leb (blockDistance file) (trailerAt file)))
 
--- 10: "the running sum differs"
+-- Rule 7.10: the sum in the trailer is the one that is added up.
 unfoldable pub sumAgrees : List ℕ → Bool
 sumAgrees file = eqb (sumOf (summedBytes file)) (statedSum file)
 
--- 11: "job block out of range, or D1 isn't 6 + 6n + D2"
+-- Rule 7.11: the bytes from D1 to D2 are a job block, and its job is in range.
 unfoldable pub agreed : Blocked → Bool
 agreed blocked = blocked .ok && jobInRange (blocked .job)
 
 unfoldable pub nodesRead : List ℕ → Job → Part
 nodesRead file job = partAt (piecesOf job) (beforeTrailer file) (wholeSheet job (nodesAt file))
 
--- 12: "the nodes break a rule below", "bytes left after it"; 13: "the stated value isn't the sum of the leaves"
+-- Rule 7.12: the tree was read, up to the trailer; rule 7.13: its leaves earn the value in the trailer.
 unfoldable pub judged : List ℕ → Part → Checked
 judged file (Part.Read next tally) =
     cond (eqb next (trailerAt file))
@@ -44,11 +44,11 @@ judged file (Part.Read next tally) =
     (Checked.Refused nodesBroken)
 judged file Part.Broken = Checked.Refused nodesBroken
 
--- 11 to 13, by the job of the block.
+-- Rules 7.11 to 7.13, by the job of the block.
 unfoldable pub judgedJob : List ℕ → Blocked → Checked
 judgedJob file blocked = cond (agreed blocked) (judged file (nodesRead file (blocked .job))) (Checked.Refused jobOutOfRange)
 
--- "Checked in the order of the numbers."
+-- The first number that applies, or the answer (rule 4.16).
 unfoldable pub checked : List ℕ → Checked
 checked file =
     cond (framed file) (cond (sumAgrees file) (judgedJob file (fromBlock (blockBytes file))) (Checked.Refused sumDiffers)) (Checked.Refused notFramed)

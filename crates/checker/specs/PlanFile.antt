@@ -18,15 +18,15 @@ use Rattle.checker.specs.Checked.{Answer}
 unfoldable pub body : Job → Tree → List ℕ
 body job tree = blockOf job ++ encode tree
 
--- "D1 ..; D2 ..; the value": the trailer up to the sum field.
+-- The trailer up to its sum: D1, D2 and the value (rule 8.7).
 unfoldable pub pointers : Job → Tree → List ℕ
 pointers job tree = bytes4 (length (body job tree)) ++ (bytes4 (length (encode tree)) ++ bytes4 (earning (piecesOf job) tree))
 
--- "from the job block up to the sum field"
+-- What the sum covers (rule 8.9).
 unfoldable pub summed : Job → Tree → List ℕ
 summed job tree = body job tree ++ pointers job tree
 
--- "A free note of any bytes may come first", last the sum.
+-- The whole file: a note (rule 8.3), what the sum covers, and the sum (rule 8.9).
 unfoldable pub planBytes : List ℕ → Job → Tree → List ℕ
 planBytes note job tree = note ++ (summed job tree ++ bytes4 (sumOf (summed job tree)))
 

@@ -1,22 +1,22 @@
--- "Numbers we refuse with", those of check. The code has the same names as constants.
+-- The numbers that check refuses with. The code has the same names as constants.
 use Prim.Native.Nat.{ℕ}
 
--- "file length out of range, D1 < 9, or D1 > length − 16"
+-- Rule 7.9: the length or D1 is out of its range.
 abbrev pub notFramed : ℕ
 notFramed = 9
 
--- "the running sum differs"
+-- Rule 7.10: the sum is another one.
 abbrev pub sumDiffers : ℕ
 sumDiffers = 10
 
--- "job block out of range, or D1 isn't 6 + 6n + D2"
+-- Rule 7.11: the job block is out of its ranges, or hasn't the length from D1 to D2.
 abbrev pub jobOutOfRange : ℕ
 jobOutOfRange = 11
 
--- "the nodes break a rule below"
+-- Rule 7.12: the nodes aren't those of a dissection.
 abbrev pub nodesBroken : ℕ
 nodesBroken = 12
 
--- "the stated value isn't the sum of the leaves"
+-- Rule 7.13: the leaves earn another value than the trailer says.
 abbrev pub valueDiffers : ℕ
 valueDiffers = 13

@@ -1,5 +1,5 @@
 -- Only the cells of the sheet matter: tables that agree on them get the same answers, and agree still.
--- "Entries beyond a·b are no cells of the sheet": they are never read.
+-- The entries behind them belong to no cell (rule 4.3): no answer depends on them.
 use Prim.Native.Nat.{ℕ, zero, suc, _*_, _≤_}
 use mathlib.Core.Bool.{Bool, true, false, not, cond, _&&_}
 use mathlib.Core.List.{List, [], _∷_}

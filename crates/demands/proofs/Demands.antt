@@ -1,4 +1,4 @@
--- Demand 3 and the first half of demand 2, over every history of calls whose answers keep their promises.
+-- Rule 10.2 and rules 10.5 to 10.7, over every history of calls whose answers keep their promises.
 use Prim.Native.Nat.{ℕ}
 use mathlib.Core.Bool.{true}
 use mathlib.Core.List.{List}
@@ -73,12 +73,11 @@ both f g = ((λ a. (g .0 (f .0 a .0), f .0 a .1)), (λ c. f .1 (g .1 (c .0), c .
 either : {A B C E : Type 0} → A ↔ (B ⊎ E) → B ↔ C → A ↔ (C ⊎ E)
 either f g = ((λ a. ⊎-elim (λ b. inl (g .0 b)) inr (f .0 a)), (λ c. f .1 (⊎-elim (λ d. inl (g .1 d)) inr c)))
 
--- DEMAND 3, first part: "every filled cell holds the best value for the pieces as they stand now".
+-- Rule 10.5: a filled cell holds the best value for the job that the history ends with.
 pub demand-3-best : {job : Job} {t : List ℕ} → History job t → (u w : ℕ) → OnSheet job u w → Filled job t u w → BestFor job u w (cell job t u w)
 demand-3-best h = history-kept h .best
 
--- DEMAND 3, second part: "a cell is filled exactly when an answered question has covered it since the opening and since the
--- last accepted change whose old or new size fits in it".
+-- Rule 10.6: the cells that are filled are exactly the covered ones.
 pub demand-3-filled : {job : Job} {t : List ℕ} (h : History job t) (u w : ℕ) → OnSheet job u w → Filled job t u w ↔ Covered h u w
 unfolding Covered
 demand-3-filled (History.opening a b t p e) u w i = ((λ f. f (open-outcome a b t p e .none u w i)), (λ n. absurd n))
@@ -97,7 +96,7 @@ demand-3-filled (History.elsewhere h s) u w i =
     let g = demand-3-filled h u w i in
     ((λ f. g .0 (λ e. f (s .cells u w i ∙ e))), (λ c e. g .1 c (sym (s .cells u w i) ∙ e)))
 
--- DEMAND 3, third part: "the work reported is the number of cells that were empty under the question"; refusals report 0.
+-- Rule 10.7: an answer counts the empty cells of the question's box; a refusal counts 0.
 pub demand-3-work : {job : Job} {t : List ℕ} → History job t → (x y : ℕ) {r : KhonAsked} {t' : List ℕ} → KhonAsks (blockOf job) t x y r t'
     → (r .refusal ≡ 0 → r .worked ≡ countInBox x y (isEmpty (job .width) t)) × ((r .refusal ≡ 0 → ⊥) → r .worked ≡ 0)
 demand-3-work {job} {t} h x y p = by (question (history-kept h) x y p)
@@ -107,8 +106,7 @@ demand-3-work {job} {t} h x y p = by (question (history-kept h) x y p)
     by (Question.answered z i f v n) = ((λ _. n), (λ h. absurd (h z)))
     by (Question.refused h q v n e) = ((λ z. absurd (h z)), (λ _. n))
 
--- DEMAND 2, first half: "On a kept table every question inside the sheet is answered, and the value is the most that any
--- guillotine dissection at whole-unit positions can earn." (So refusal 7 never arises there.)
+-- Rule 10.2: along a history no question inside the sheet is refused, and each gets its best value.
 pub demand-2-answered : {job : Job} {t : List ℕ} → History job t → (x y : ℕ) → OnSheet job x y → {r : KhonAsked} {t' : List ℕ}
     → KhonAsks (blockOf job) t x y r t' → (r .refusal ≡ 0) × BestFor job x y (r .value)
 demand-2-answered {job} {t} h x y i p = by (question (history-kept h) x y p)
@@ -117,7 +115,7 @@ demand-2-answered {job} {t} h x y i p = by (question (history-kept h) x y p)
     by (Question.answered z j f v n) = (z, subst (BestFor job x y) (sym v) (box-best job t (history-kept h) x y i f x y (omega (arith, i))))
     by (Question.refused h' q v n e) = absurd (h' (kept-answered job t (history-kept h) x y i q))
 
--- "On a table kept so, refusal 7 never arises": no question gets it, inside the sheet or not.
+-- On a kept table rule 7.7 never applies to a question, inside the sheet or not.
 pub ask-never-seven : {job : Job} {t : List ℕ} → History job t → (x y : ℕ) {r : KhonAsked} {t' : List ℕ} → KhonAsks (blockOf job) t x y r t' → r .refusal ≡ 7
     → ⊥
 unfolding askRefusals rowsBefore everyNumber PassesAt StopsAt

@@ -1,4 +1,4 @@
--- "These must not satisfy it": the libraries that document 01 names, each shown to break a promise.
+-- The libraries of rule 11.3, each shown to break a promise.
 use Prim.Native.Nat.{ℕ, zero, suc, _≤_, _%_}
 use mathlib.Core.List.{List, [], _∷_}
 use mathlib.Core.Logic.{_⊎_, inr, ⊎-elim}
@@ -59,7 +59,7 @@ first-zero zero o e = refl
 first-zero (suc n) [] e = refl
 first-zero (suc n) (b ∷ o) e = e
 
--- "a library that refuses everything": a question inside the sheet of a kept table is never refused.
+-- One that refuses everything (rule 11.3): a question inside the sheet of a kept table is never refused.
 pub refusing-breaks : {job : Job} {t : List ℕ} → History job t → (x y : ℕ) → OnSheet job x y → {r : KhonAsked} {t' : List ℕ} → KhonAsks (blockOf job) t x y r t'
     → (r .refusal ≡ 0 → ⊥) → ⊥
 refusing-breaks h x y i p refused = refused (demand-2-answered h x y i p .0)
@@ -81,22 +81,21 @@ pub remove-refusing-breaks : (job : Job) (t : List ℕ) (k : ℕ) → RemoveRefu
     → (r .refusal ≡ 0 → ⊥) → ⊥
 remove-refusing-breaks job t k q l refused = refused (sym (demand-1-remove job t k l .only 0 q))
 
--- ".. or answers one value": two questions with different best values can't both get it.
+-- One that has a single value (rule 11.3): two questions with different best values can't both get it.
 pub one-value-breaks : {job other : Job} {t s : List ℕ} → History job t → History other s → (x y p q : ℕ) → OnSheet job x y → OnSheet other p q → {v b d : ℕ}
     → BestFor job x y b → BestFor other p q d → (b ≡ d → ⊥) → {r r' : KhonAsked} {t' s' : List ℕ} → KhonAsks (blockOf job) t x y r t'
     → KhonAsks (blockOf other) s p q r' s' → r .value ≡ v → r' .value ≡ v → ⊥
 one-value-breaks h g x y p q i j best best' differ a a' e e' =
     differ (best-unique best (demand-2-answered h x y i a .1) ∙ (e ∙ (sym e' ∙ best-unique (demand-2-answered g p q j a' .1) best')))
 
--- ".. or refuses everything": a plan of what was asked, with enough room, is never refused.
+-- One that refuses every plan (rule 11.3): what was asked is planned, where there is room enough.
 pub plan-refusing-breaks : {job : Job} {t : List ℕ} (h : History job t) (x y : ℕ) → OnSheet job x y → AskedSince h x y → (o : List ℕ)
     → planEnough (job .count) x y ≤ length o → {r : KhonPlanned} {p : List ℕ} → KhonPlans (blockOf job) t x y o r p → (r .refusal ≡ 0 → ⊥) → ⊥
 plan-refusing-breaks h x y i n o enough l refused =
     let b = demand-2-enough h x y i n o enough l in
     refused (ap (λ (c : KhonPlanned). c .refusal) (b .laid ∙ ap flatPlanned (b .keeps .written)))
 
--- "one that writes nothing (2: the plan": the buffer of zeros that was lent for a plan is not left as it was; the file begins with
--- the width.
+-- One that writes no plan (rule 11.3): a lent buffer that begins with 0 is not left as it was; the file begins with the width.
 pub plan-nothing-breaks : {job : Job} {t : List ℕ} (h : History job t) (x y : ℕ) → OnSheet job x y → AskedSince h x y → (o : List ℕ)
     → planEnough (job .count) x y ≤ length o → getD o 0 0 ≡ 0 → {r : KhonPlanned} → KhonPlans (blockOf job) t x y o r o → ⊥
 unfolding planBytes summed body block bytesOfHead bytes2
@@ -106,19 +105,19 @@ plan-nothing-breaks {job} h x y i n o enough z l =
     let width : getD (take bytes o) 0 0 ≡ x % 256 = ap (λ (s : List ℕ). getD s 0 0) (b .file) in
     omega (arith, first-zero bytes o z, width, i .widthLeast, i .widthMost, history-kept h .usable .range .widthMost)
 
--- "a library that refuses everything": check accepts K4's file.
+-- One that refuses every file (rule 11.3): check accepts K4's.
 pub check-refusing-breaks : {r : KhonChecked} → KhonChecks k4 r → (r .refusal ≡ 0 → ⊥) → ⊥
 unfolding checked framed sumAgrees agreed nodesRead judged judgedJob summedBytes blockBytes number2Of number4Of runningSum piecesOf jobOf pieceInRange piecesInRange jobInRange pieceFrom jobIn blockShape fromBlock isPiece isInside letterNode nodeAt withFirst thenRead bothParts partBy partAt deep toDepth byIndex allBelow
 check-refusing-breaks l refused = refused (ap (λ (c : KhonChecked). c .refusal) (l .laid ∙ ap flatChecked (only k4 (are-bytes k4 refl) (l .keeps))))
 
--- ".. 3: filled cells)": an answered question fills every cell that it covers.
+-- One that writes no cell (rule 11.3): an answered question fills every cell that it covers.
 pub writing-nothing-breaks : {job : Job} {t : List ℕ} → History job t → (x y : ℕ) → OnSheet job x y → (u w : ℕ) → Inside u w x y → cell job t u w ≡ empty
     → {r : KhonAsked} → KhonAsks (blockOf job) t x y r t → ⊥
 unfolding Covered
 writing-nothing-breaks {job} {t} h x y i u w j e p =
     demand-3-filled (History.asking h x y p) u w (omega arith) .1 (inr (demand-2-answered h x y i p .0, omega arith)) e
 
--- "one that works on the first question and repeats itself later": after K2's correction the answer is 6 and no longer 8.
+-- One that repeats its first answer (rule 11.3): after K2's correction the answer is 6 and no longer 8.
 pub repeating-breaks : (t t' : List ℕ) (r : KhonChanged) (sayings : List Said) → KhonOpens 3 3 t r t' → r .refusal ≡ 0 → Runs (r .job) t' (K2 .steps) sayings
     → getD sayings 2 (said 0 0 0 0) .value ≡ getD sayings 4 (said 0 0 0 0) .value → ⊥
 repeating-breaks t t' r sayings p e runs same =
@@ -127,19 +126,18 @@ repeating-breaks t t' r sayings p e runs same =
     let z : _≡_ {A = ℕ} 8 6 = sym (ap (value 2) k) ∙ (same ∙ ap (value 4) k) in
     omega arith
 
--- ".. or empties all at a change": a filled cell in which neither the old nor the new size fits stays filled.
+-- One that empties everything (rule 11.3): a filled cell in which neither the old nor the new size fits stays filled.
 pub emptying-all-breaks : (job : Job) (t : List ℕ) (k : ℕ) (piece : Record) (u w : ℕ) → {r : KhonChanged} {t' : List ℕ} → KhonCorrects job t k piece r t'
     → OnSheet (r .job) u w → Filled job t u w → (SizeFits (recordOfPiece job k) u w ⊎ SizeFits piece u w → ⊥) → cell (r .job) t' u w ≡ empty → ⊥
 emptying-all-breaks job t k piece u w p i f spared e =
     outcome-filled (correct-outcome job t k piece p) u w i .1 .1 (f, λ _. spared) e
 
--- "an invented work count": it is the number of cells that were empty under the question.
+-- One that makes up its work (rule 11.3): it is the number of cells that were empty under the question.
 pub inventing-breaks : {job : Job} {t : List ℕ} → History job t → (x y : ℕ) {r : KhonAsked} {t' : List ℕ} → KhonAsks (blockOf job) t x y r t' → r .refusal ≡ 0
     → (r .worked ≡ countInBox x y (isEmpty (job .width) t) → ⊥) → ⊥
 inventing-breaks h x y p z n = n (demand-3-work h x y p .0 z)
 
--- "also where the record is unchanged by a correction": after an accepted correction no cell in which the old or the new size
--- fits is filled, so a library that leaves the cells where nothing changed breaks the promise.
+-- One that leaves cells alone (rule 11.3): after an accepted correction, even to the same piece, no cell is filled where either size fits.
 pub keeping-breaks : (job : Job) (t : List ℕ) (k : ℕ) (piece : Record) (u w : ℕ) → {r : KhonChanged} {t' : List ℕ} → KhonCorrects job t k piece r t'
     → r .refusal ≡ 0 → OnSheet (r .job) u w → SizeFits (recordOfPiece job k) u w ⊎ SizeFits piece u w → Filled (r .job) t' u w → ⊥
 keeping-breaks job t k piece u w p accepted i hit f =

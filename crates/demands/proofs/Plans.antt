@@ -1,4 +1,4 @@
--- The second half of demand 2: the plan of what was asked.
+-- The plan of what was asked (rule 10.3), and what check accepts (rule 10.4).
 use Prim.Native.Nat.{ℕ, suc, _+_, _*_, _≤_}
 use mathlib.Core.List.{List}
 use mathlib.Core.Logic.{inl, inr, ⊎-elim, _↔_}
@@ -58,8 +58,7 @@ asked-covers (History.elsewhere h s) x y u w i n = asked-covers h x y u w i n
 asked-full : {job : Job} {t : List ℕ} (h : History job t) (x y : ℕ) → OnSheet job x y → AskedSince h x y → Full (job .width) t x y
 asked-full h x y i n u w j = demand-3-filled h u w (omega arith) .1 (asked-covers h x y u w j n)
 
--- DEMAND 2, second half: "Once asked, with no accepted change since and room in the buffer, the plan is written, is such a
--- dissection and earns that value." Room: the file of the tree for x by y is no longer than the buffer.
+-- Rule 10.3: what was asked is planned, and the plan earns its best value. Room: the file of the tree for x by y is no longer than the buffer.
 pub demand-2-planned : {job : Job} {t : List ℕ} (h : History job t) (x y : ℕ) → OnSheet job x y → AskedSince h x y → (o : List ℕ)
     → ((tree : Tree) → TreeFor job t x y tree → length (fileOf job x y tree) ≤ length o) → {r : KhonPlanned} {p : List ℕ} → KhonPlans (blockOf job) t x y o r p
     → Laid flatPlanned (λ c. PlansBest job x y c p) r
@@ -100,7 +99,7 @@ plan-refused {job} {t} h x y o l k e = by (with-own (kept-block (history-kept h)
     by (Plans.written r b m) z = absurd (omega arith)
     by (Plans.refused {k = j} q) z = subst (PlanRefusal job t x y (length o)) z q
 
--- "On a table kept so, refusal 7 never arises" for plan either ..
+-- On a kept table rule 7.7 never applies to plan either ..
 pub plan-never-seven : {job : Job} {t : List ℕ} → History job t → (x y : ℕ) (o : List ℕ) {r : KhonPlanned} {p : List ℕ} → KhonPlans (blockOf job) t x y o r p
     → r .refusal ≡ 7 → ⊥
 plan-never-seven {job} {t} h x y o l e =
@@ -140,7 +139,7 @@ planned-accepted block t x y o {r} {p} l z bytes {c} m =
     let areas = ap (λ (k : KhonChecked). k .«piece_area» + k .«scrap_area») same ∙ a .areas in
     (ap (λ (k : KhonChecked). k .refusal) same, value, ap (λ (k : KhonChecked). k .note) same, areas)
 
--- "Bytes after that length stay", and the buffer is as long as before.
+-- The bytes behind the file stay (rule 4.10), and the buffer is as long as before.
 pub planned-stays : (block t : List ℕ) (x y : ℕ) (o : List ℕ) {r : KhonPlanned} {p : List ℕ} → KhonPlans block t x y o r p
     → (drop (r .length) p ≡ drop (r .length) o) × (length p ≡ length o)
 planned-stays block t x y o {p = p} l =
@@ -159,7 +158,7 @@ planned-stays block t x y o {p = p} l =
     by (WithBlock.shaped s a) = plans a
     by (WithBlock.shapeless h) = (refl, refl)
 
--- DEMAND 2, last sentence: "The checker accepts a plan file exactly when it follows the layout and the rules, whoever wrote it."
+-- Rule 10.4: check accepts exactly the plan files, each with its own answer.
 pub demand-2-checked : (file : List ℕ) → Bytes file → {r : KhonChecked} → KhonChecks file r → (a : Answer)
     → ((r ≡ laidOut a) × (a .number ≡ 0)) ↔ PlanFile file a
 demand-2-checked file bytes {r} l a =
@@ -171,7 +170,7 @@ demand-2-checked file bytes {r} l a =
     same : {b d : Answer} → laidOut b ≡ laidOut d → b ≡ d
     same f = λ i. record { number = f i .refusal; value = f i .value; note = f i .note; pieceArea = f i .«piece_area»; scrapArea = f i .«scrap_area» }
 
--- "KHON_PLAN_ENOUGH bytes always hold it": with that room plan is never refused with 8, on any table and for any block.
+-- KHON_PLAN_ENOUGH bytes hold every plan: with that room rule 7.8 never applies, on any table and for any block.
 pub plan-never-eight : (block t : List ℕ) (x y : ℕ) (o : List ℕ) → planEnough (jobIn block .count) x y ≤ length o → {r : KhonPlanned} {p : List ℕ}
     → KhonPlans block t x y o r p → r .refusal ≡ 8 → ⊥
 plan-never-eight block t x y o enough l e = by (demand-1-plan block t x y o l .given) e

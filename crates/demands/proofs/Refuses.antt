@@ -1,4 +1,4 @@
--- DEMAND 1, call by call: the number is the list's and no other, and a refusal leaves job, cells and bytes and answers zeros.
+-- Rule 10.1, call by call: the number is the list's and no other, and a refusal leaves job, cells and bytes and answers zeros.
 use Prim.Native.Nat.{ℕ, _≤_}
 use native.Mathlib.Omega.{arith}
 use mathlib.Core.List.{List, []}
@@ -147,7 +147,7 @@ demand-1-check file bytes l = subst (λ (r : KhonChecked). Refuses (CheckRefusal
           leaves = zeros c;
         }
 
--- "a job of zeros, which every later call refuses with 1".
+-- The job of zeros, which each call refuses with 1 (rule 4.17).
 no-zeros : JobInRange zeroJob → ⊥
 no-zeros r = true≢false (sym (job-says zeroJob .found r) ∙ zeros-refused)
 
@@ -176,7 +176,7 @@ pub zeros-plan : (t : List ℕ) (x y : ℕ) (o : List ℕ) {r : KhonPlanned} {o'
 unfolding Gives planRefusals
 zeros-plan t x y o l = demand-1-plan (blockOf zeroJob) t x y o l .only 1 (zeros-block (λ job. PlanRefusal job t x y (length o)) (inl (no-zeros, refl)))
 
--- "an accepted open, add, correct or remove returns [records past n] as zeros".
+-- Behind the n-th piece there are zeros, in the job of each accepted change (rule 4.12).
 abbrev ZerosPast : Job → Type 0
 ZerosPast job = (k : ℕ) → job .count ≤ k → getD (job .pieces) k noRecord ≡ noRecord
 

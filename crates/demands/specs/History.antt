@@ -1,5 +1,5 @@
--- "Open, then add, correct, remove and ask in any order, refused calls among them": the calls under the header's names, each given
--- the job last returned, or its block. An answer in a history is any answer that keeps the call's promise, whoever's library gave it.
+-- What makes a kept table (rule 4.13): an accepted open, then the calls in any order under the header's names, each given the job
+-- last returned, or its block. An answer in a history is any answer that keeps the call's promise, whoever's library gave it.
 use Prim.Native.Nat.{ℕ, _≤_}
 use mathlib.Core.List.{List}
 use mathlib.Core.Logic.{_⊎_}
@@ -30,12 +30,11 @@ Filled job t u w = cell job t u w ≡ empty → ⊥
 abbrev pub OnSheet : Job → ℕ → ℕ → Type 0
 OnSheet job u w = Inside u w (job .width) (job .height)
 
--- v is the best value of u by w "for the pieces as they stand".
+-- v is the best value (rule 2.6) of u by w for the job's pieces.
 abbrev pub BestFor : Job → ℕ → ℕ → ℕ → Type 0
 BestFor job u w v = Best (layOf job) u w v
 
--- "Entries beyond a·b are no cells of the sheet .. and demand 3 doesn't speak of them": the caller may keep his own data there. The row
--- t' has the cells of t, and whatever else.
+-- The row t' has the cells of t, and behind them whatever the caller keeps there (rule 4.3).
 pub record SameSheet (job : Job) (t t' : List ℕ) : Type 0 where
   pub room : cellsOf job ≤ length t'
   pub cells : (u w : ℕ) → OnSheet job u w → cell job t' u w ≡ cell job t u w
@@ -50,7 +49,7 @@ pub data History : Job → List ℕ → Type 0 where
   -- between two calls, the caller's own data beyond the sheet
   elsewhere : {job : Job} {t t' : List ℕ} → History job t → SameSheet job t t' → History job t'
 
--- "an answered question has covered [the cell] since the opening and since the last accepted change whose old or new size fits in it"
+-- Rule 10.6: an answered question covered the cell (u, w), and no change that was accepted later emptied it.
 unfoldable pub Covered : {job : Job} {t : List ℕ} → History job t → ℕ → ℕ → Type 0
 Covered (opening a b t p e) u w = ⊥
 Covered (adding {r = r} h piece p) u w = Covered h u w × (r .refusal ≡ 0 → SizeFits piece u w → ⊥)
@@ -60,7 +59,7 @@ Covered (removing {job = job} {r = r} h k p) u w = Covered h u w × (r .refusal 
 Covered (asking {r = r} h x y p) u w = Covered h u w ⊎ ((r .refusal ≡ 0) × Fits u w x y)
 Covered (elsewhere h s) u w = Covered h u w
 
--- "Once asked, with no accepted change since": an answered question covered x by y, and no change was accepted after it.
+-- Rule 10.3: an answered question covered x by y, and no change was accepted after it.
 unfoldable pub AskedSince : {job : Job} {t : List ℕ} → History job t → ℕ → ℕ → Type 0
 AskedSince (opening a b t p e) x y = ⊥
 AskedSince (adding {r = r} h piece p) x y = AskedSince h x y × (r .refusal ≡ 0 → ⊥)

@@ -1,4 +1,4 @@
--- DEMAND 1: "Refusals come exactly where the list says, by number and with value 0, and a refusal changes no byte or cell that was lent."
+-- Rule 10.1: a call has the number that its list gives, and a refused one leaves what was lent and answers zeros.
 use Prim.Native.Nat.{ℕ}
 use mathlib.Core.List.{List}
 use mathlib.Core.Path.{_≡_}

@@ -1,4 +1,4 @@
--- "Sheets to try", as scripts of calls on an opened sheet, with what each call is to say, and the best value as the definition has it.
+-- K1 to K10, as scripts of calls on an opened sheet, with what each call is to say, and the best value as the definition has it.
 use Prim.Native.Nat.{ℕ}
 use mathlib.Core.Bool.{true, false}
 use mathlib.Core.List.{List, [], _∷_, _++_}
@@ -95,7 +95,7 @@ sheet width height steps sayings x y best = record { width = width; height = hei
 abbrev pub sheetFile : ℕ → ℕ → List Piece → Tree → List ℕ
 sheetFile a b pieces tree = fileOf (jobOf a b pieces) a b tree
 
--- "K1: stock 3 by 3, pieces 1 by 2 value 2, 2 by 3 value 6 (..): 8." Document 01 lists its tree.
+-- K1: two kinds of piece on 3 by 3, asked and planned: 8, and the file of its tree.
 abbrev pub k1Asked : List ScriptStep
 k1Asked = ScriptStep.add (sized 1 2 2) ∷ ScriptStep.add (sized 2 3 6) ∷ ScriptStep.ask 3 3 ∷ []
 
@@ -110,7 +110,7 @@ K1 =
     ++ (wrote 8 (sheetFile 3 3 (sized 1 2 2 ∷ sized 2 3 6 ∷ []) (Tree.line false 1 (Tree.line true 2 (Tree.pieceP 1) Tree.scrapS) (Tree.pieceP 2))) ∷ []))
     3 3 8
 
--- "K2: K1 asked, then piece 2 corrected to 2 by 2 value 4: exactly four cells emptied; asking 3 by 3 gives 6, four worked out."
+-- K2: after K1's question a smaller and cheaper piece 2 empties four cells; the second question works out these, and gets 6.
 abbrev pub K2 : Sheet
 K2 =
     sheet 3 3
@@ -118,7 +118,7 @@ K2 =
     (k1Said ++ (said 0 0 0 4 ∷ said 0 6 4 0 ∷ []))
     3 3 6
 
--- "K3: after K2's correction, ask 1 by 3: 2, none worked out."
+-- K3: the same correction leaves 1 by 3 filled, so that its question gets 2 without any work.
 abbrev pub K3 : Sheet
 K3 =
     sheet 3 3
@@ -126,13 +126,13 @@ K3 =
     (k1Said ++ (said 0 0 0 4 ∷ said 0 2 0 4 ∷ []))
     1 3 2
 
--- "K4: no pieces, 1 by 1: 0. Its file, in hex: 01 00 01 00 00 00 53 00 00 09 00 00 00 03 00 00 00 00 00 00 00 3C F5 29 6E."
+-- The file of K4, as docs/FORMAT.md has it.
 abbrev pub k4 : List ℕ
 k4 =
     0x01 ∷ 0x00 ∷ 0x01 ∷ 0x00 ∷ 0x00 ∷ 0x00 ∷ 0x53 ∷ 0x00 ∷ 0x00 ∷ 0x09 ∷ 0x00 ∷ 0x00 ∷ 0x00
     ∷ 0x03 ∷ 0x00 ∷ 0x00 ∷ 0x00 ∷ 0x00 ∷ 0x00 ∷ 0x00 ∷ 0x00 ∷ 0x3C ∷ 0xF5 ∷ 0x29 ∷ 0x6E ∷ []
 
--- "K9: K4's file without its last byte: 9." "K10: K4's file with its first byte 2: 10."
+-- K4: 0 for the sheet without a piece, and its file, which check accepts; K9 and K10: not when it is cut short or changed.
 abbrev pub K4K9K10 : Sheet
 K4K9K10 =
     sheet 1 1
@@ -140,7 +140,7 @@ K4K9K10 =
     (said 0 0 1 0 ∷ wrote 0 k4 ∷ said 0 0 0 0 ∷ said 9 0 0 0 ∷ said 10 0 0 0 ∷ [])
     1 1 0
 
--- "K5: 3 by 3, one piece 2 by 2 value 5: 5; nodes V2 H2 P1 S0 S0."
+-- K5: one small piece on 3 by 3, cut out by a vertical line and then a horizontal one.
 abbrev pub K5 : Sheet
 K5 =
     sheet 3 3
@@ -149,7 +149,7 @@ K5 =
     ∷ wrote 5 (sheetFile 3 3 (sized 2 2 5 ∷ []) (Tree.line false 2 (Tree.line true 2 (Tree.pieceP 1) Tree.scrapS) Tree.scrapS)) ∷ [])
     3 3 5
 
--- "K6: 5 by 4, same piece: 20."
+-- K6: the piece of K5 on 5 by 4, where it is cut four times.
 abbrev pub K6 : Sheet
 K6 =
     sheet 5 4
@@ -157,7 +157,7 @@ K6 =
     (said 0 0 0 20 ∷ said 0 20 20 0 ∷ [])
     5 4 20
 
--- "K7: 1 by 2, piece 2 by 1: 0." (docs/DECISIONS.md, 6: its value is 1.)
+-- K7: a piece that would fit only if it were turned (rule 2.3) earns nothing.
 abbrev pub K7 : Sheet
 K7 =
     sheet 1 2
@@ -165,7 +165,7 @@ K7 =
     (said 0 0 0 2 ∷ said 0 0 2 0 ∷ [])
     1 2 0
 
--- "K8: 2 by 3, one piece 2 by 3 value 6: 6; one node, P1."
+-- K8: a piece that is the whole sheet, one node.
 abbrev pub K8 : Sheet
 K8 =
     sheet 2 3

@@ -1,1 +1,1 @@
-// Theory alone: the customer's three demands as theorems over the calls' promises. See specs/ and proofs/.
+// Theory alone: the three demands (rules 10.1 to 10.7) as theorems over the calls' promises. See specs/ and proofs/.

@@ -1,4 +1,4 @@
--- Refusals exactly when, what each call answers, and that the promises say the document's words.
+-- Refusals exactly when, what each call answers, and that the promises say the words of the rules.
 pub mod Exactly
 pub mod Answers
 pub mod Granted

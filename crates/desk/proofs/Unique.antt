@@ -1,4 +1,4 @@
--- "Any two answers that satisfy it are shown equal": answer, job and all cells, for every call.
+-- Two answers that keep one promise are equal (rule 11.2): answer, job and all cells, for every call.
 use Prim.Native.Nat.{ℕ}
 use mathlib.Core.List.{List}
 use mathlib.Core.Path.{_≡_, sym, _∙_}

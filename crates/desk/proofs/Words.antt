@@ -1,4 +1,4 @@
--- The promise of each call is what the document says: for all input, exactly the answers and tables that its words allow.
+-- The promise of each call is what the rules say: for all input, exactly the answers and tables that their words allow (rule 11.1).
 use Prim.Native.Nat.{ℕ, zero, suc, _*_, _≤_}
 use mathlib.Core.Bool.{Bool}
 use mathlib.Core.List.{List, []}

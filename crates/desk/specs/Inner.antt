@@ -30,7 +30,7 @@ unfoldable pub accepted {ℓ} : {A : Type ℓ} → ℕ → A → A → A
 accepted zero given left = given
 accepted (suc k) given left = left
 
--- "Numbers we refuse with": the lists with a test for each row, and the number that they compute.
+-- The refusals (rule 4.16): the lists with a test for each row, and the number that they compute.
 
 -- The first rows of every call on a job: 1 and 2.
 unfoldable pub jobRefusals : Job → List ℕ → List Row
@@ -77,7 +77,7 @@ askTests job t x y =
 unfoldable pub askRefused : Job → List ℕ → ℕ → ℕ → ℕ
 askRefused job t x y = numberGiven (askRefusals job t x y) (askTests job t x y)
 
--- "Open a, b", "Add, correct piece k, remove piece k": answer, job and all cells.
+-- Open, add, correct and remove (rules 4.4 to 4.7): answer, job and all cells.
 
 -- The answer of a change: its number, and the job after it, or, where it is refused, the job that is left.
 abbrev pub changed : ℕ → Job → Job → Changed
@@ -115,7 +115,7 @@ removedJob job t k = changed (removeRefused job t k) (withRemoved job k) job
 unfoldable pub removedCells : Job → List ℕ → ℕ → List ℕ
 removedCells job t k = accepted (removeRefused job t k) (emptiedSize job (recordOfPiece job k) t) t
 
--- "Ask x, y": the answer and all cells.
+-- Ask (rules 4.8 and 4.9): the answer and all cells.
 
 -- The answer with these numbers.
 abbrev pub askedWith : ℕ → ℕ → ℕ → Asked
@@ -138,7 +138,7 @@ unfoldable pub askedCells : Job → List ℕ → ℕ → ℕ → List ℕ
 askedCells job t x y = accepted (askRefused job t x y) (filledFor job t x y) t
 
 -- The promise of each call, for all input: r is its answer, and t' is what the table t holds then. As equations here, for the
--- contracts; in the document's words `Opens`, `Adds`, `Corrects`, `Removes` and `Asks`. proofs/Words says that both are the same.
+-- contracts; in the words of the rules `Opens`, `Adds`, `Corrects`, `Removes` and `Asks`. proofs/Words says that both are the same.
 
 abbrev pub OpenPromise : ℕ → ℕ → List ℕ → Changed → List ℕ → Type 0
 OpenPromise a b t r t' = (r ≡ opened a b t) × (t' ≡ openedCells a b t)

@@ -1,4 +1,4 @@
--- "Numbers we refuse with", call by call: each number "exactly when", in the order in which the call looks.
+-- The refusals, call by call: when each number is given, exactly, in the order in which the call looks (rule 4.16).
 use Prim.Native.Nat.{ℕ, _*_, _≤_}
 use mathlib.Core.List.{List, [], _∷_}
 use mathlib.Core.Path.{_≡_}
@@ -51,14 +51,14 @@ pub record IsNumber (job : Job) (k : ℕ) : Type 0 where
   pub least : 1 ≤ k
   pub most : k ≤ job .count
 
--- Open: "1: a side .. is outside its range"; "2: the table has fewer than a·b cells"
+-- Open: a side (rule 7.1), the table (rule 7.2).
 unfoldable pub openRefusals : ℕ → ℕ → List ℕ → List Row
 openRefusals a b t =
     unless badJob (Inside a b sideMax sideMax)
     ∷ unless shortTable (a * b ≤ length t)
     ∷ []
 
--- Add: "1: a side, n or a piece of the job is outside its range"; 2; "4: the new piece is outside its range"; "5: n is 64"
+-- Add: the job (rule 7.1), the table (rule 7.2), the new piece (rule 7.4), a full job (rule 7.5).
 unfoldable pub addRefusals : Job → List ℕ → Record → List Row
 addRefusals job t piece =
     unless badJob (JobInRange job)
@@ -67,7 +67,7 @@ addRefusals job t piece =
     ∷ when fullJob (job .count ≡ piecesMax)
     ∷ []
 
--- Correct: 1; 2; "3: k isn't 1 to n"; 4
+-- Correct: the job, the table, the piece's number, the new piece (rules 7.1 to 7.4).
 unfoldable pub correctRefusals : Job → List ℕ → ℕ → Record → List Row
 correctRefusals job t k piece =
     unless badJob (JobInRange job)
@@ -76,7 +76,7 @@ correctRefusals job t k piece =
     ∷ unless badPiece (PieceInRange (piece .width) (piece .height) (piece .value))
     ∷ []
 
--- Remove: 1; 2; 3
+-- Remove: the job, the table, the piece's number (rules 7.1 to 7.3).
 unfoldable pub removeRefusals : Job → List ℕ → ℕ → List Row
 removeRefusals job t k =
     unless badJob (JobInRange job)
@@ -84,7 +84,7 @@ removeRefusals job t k =
     ∷ unless notInside (IsNumber job k)
     ∷ []
 
--- Ask: 1; 2; "3: x isn't 1 to a or y isn't 1 to b"; "7: a non-empty cell (u, w) in the box exceeds u·w·65,535"
+-- Ask: the job, the table, the rectangle (rules 7.1 to 7.3), a filled cell with too large a number (rule 7.7).
 unfoldable pub askRefusals : Job → List ℕ → ℕ → ℕ → List Row
 askRefusals job t x y =
     unless badJob (JobInRange job)

@@ -8,22 +8,22 @@ use fields::cast::wide;
 use job::Job;
 use job::Piece;
 
-// A side, n or a piece of the job is outside its range.
+// Rule 7.1: the job is out of its ranges, or the bytes are no job block.
 pub const JOB: u32 = 1;
 
-// The table has fewer cells than the sheet.
+// Rule 7.2: the table has fewer cells than the sheet.
 pub const TABLE: u32 = 2;
 
-// The piece number isn't 1 to n, or the rectangle doesn't lie inside the sheet.
+// Rule 7.3: no piece has the number, or the rectangle doesn't lie inside the sheet.
 pub const PLACE: u32 = 3;
 
-// The new piece is outside its range.
+// Rule 7.4: the new piece is out of its ranges.
 pub const PIECE: u32 = 4;
 
-// The job has as many pieces as it can hold.
+// Rule 7.5: the job has as many pieces as it can hold.
 pub const FULL: u32 = 5;
 
-// A filled cell of the box exceeds what its area may earn.
+// Rule 7.7: a filled cell of the box holds more than its area may earn, or there is no tree.
 pub const EXCESS: u32 = 7;
 
 // Is n in the range 1 to most?

@@ -37,8 +37,7 @@ KhonCorrects job t k piece r t' = Laid flatChanged (λ c. Corrects job t k piece
 abbrev pub KhonRemoves : Job → List ℕ → ℕ → KhonChanged → List ℕ → Type 0
 KhonRemoves job t k r t' = Laid flatChanged (λ c. Removes job t k c t') r
 
--- "it passes the job as a job block. A block shorter than 6 bytes, or whose length isn't 6 + 6n, or whose n is above 64, counts
--- as refusal 1": a call with the job of a block, which answers `no` and leaves what was lent where there is none.
+-- Rule 4.14: a call with the job of a block, which answers `no` and leaves what was lent where the bytes are none.
 pub data WithBlock {A : Type 0} (block : List ℕ) (call : Job → A → List ℕ → Type 0) (no : A) (lent : List ℕ) : A → List ℕ → Type 0 where
   shaped : {r : A} {left : List ℕ} → BlockShape block → call (jobIn block) r left → WithBlock block call no lent r left
   shapeless : (BlockShape block → ⊥) → WithBlock block call no lent no lent

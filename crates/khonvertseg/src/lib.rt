@@ -145,7 +145,7 @@ pub extern "C" fn khon_remove(job: Job, cells: &mut [u32], number: u32) -> KhonC
     flat_changed(change::remove(job, cells, number))
 }
 
-// What is no job block counts as refusal 1.
+// Bytes that are no job block get 1 (rule 4.14).
 fn ask_block(block: &[u8], cells: &mut [u32], x: u32, y: u32) -> desk::Asked
     ensures { λ r. ⌜ AsksBlock (now (block .entry)) (now (cells .entry)) x y r (now (cells .exit)) ⌝ }
 {
@@ -164,7 +164,7 @@ pub extern "C" fn khon_ask(block: &[u8], cells: &mut [u32], x: u32, y: u32) -> K
     flat_asked(ask_block(block, cells, x, y))
 }
 
-// What is no job block counts as refusal 1.
+// Bytes that are no job block get 1 (rule 4.14).
 fn plan_block(block: &[u8], cells: &[u32], x: u32, y: u32, file: &mut [u8]) -> plan::Planned
     ensures { λ r. ⌜ PlansBlock (now (block .entry)) (now (cells .entry)) x y (now (file .entry)) r (now (file .exit)) ⌝ }
 {

@@ -57,7 +57,7 @@ pub refused-length : (number : ℕ) → number < 100 → length (refusedText num
 unfolding refusedText
 refused-length number h = simp length-append (omega (arith, ended-length 1 number h))
 
--- "one line per node": a tree on a sheet has no longer a listing than its nodes allow.
+-- Each node has its line (rule 9.5): a tree on a sheet has no longer a listing than its nodes allow.
 module _ {pieces : List Piece} (range : InRange (Lays pieces)) (few : length pieces < 1_000) where
   top-length : {t : Tree} (level x y : ℕ) (kind : Kind) (number : ℕ) → level + (x + y) < 1_000 → x ≤ sideMax → y ≤ sideMax → number < 1_000 → Valid pieces t x y
       → length (lineText level x y (earning pieces t) kind number) ≤ lineMost

@@ -1,4 +1,4 @@
--- "Then one line per node in file order: level (1 at the root), width, height, earning, kind, number."
+-- The listing of a tree: the lines of its nodes, as they stand in the file (rule 9.5).
 use Prim.Native.Nat.{ℕ, _+_}
 use mathlib.Core.Bool.{Bool, cond}
 use mathlib.Core.List.{List, _++_}
@@ -12,7 +12,7 @@ use Rattle.listing.specs.declared.Kind.{Kind}
 abbrev pub kindOf : Bool → Kind
 kindOf tall = cond tall Kind.Horizontal Kind.Vertical
 
--- The lines of a tree that is laid on x by y, "a line before its left or lower part and that before the other".
+-- The lines of a tree that is laid on x by y, in the order of rule 8.6; a line's parts stand one level below it.
 unfoldable pub listing : List Piece → ℕ → Tree → ℕ → ℕ → List ℕ
 listing pieces level (Tree.line tall c s t) x y =
     let r = rest (crossed tall x y) c in

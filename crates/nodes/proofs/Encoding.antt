@@ -180,7 +180,7 @@ module _ (pieces : List Piece) (few : length pieces < 65_536) where
       (ap Tree.pieceP (r .0), r .1)
   same-encoding Tree.scrapS Tree.scrapS x y h k m n X Y e = (refl, same-node letterS 0 0 X Y (omega arith) (omega arith) e .1)
 
-  -- "no two trees have the same encoding" that dissect the same rectangle.
+  -- Different trees that dissect one rectangle never have the same nodes (rules 8.5 and 8.6).
   pub encode-injective : (s t : Tree) (x y : ℕ) → x < 65_536 → y < 65_536 → Valid pieces s x y → Valid pieces t x y → encode s ≡ encode t → s ≡ t
   encode-injective s t x y h k m n e = same-encoding s t x y h k m n [] [] (ap (λ (l : List ℕ). l ++ []) e) .0
 

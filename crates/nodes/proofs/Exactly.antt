@@ -149,7 +149,7 @@ module _ (pieces : List Piece) (s : List ℕ) where
       part-by pieces s (frame at x y) (scrap-read at x y d)
       ∙ ap (λ (k : ℕ). Part.Read k (scrapTally x y)) (leaf-place letterS 0 d)
 
--- "Exactly": what the reader accepts, and what it adds up, for a rectangle and pieces that the two-byte numbers can tell.
+-- Exactly what the reader accepts (rule 8.10), and what it adds up, for a rectangle and pieces that the two-byte numbers can tell.
 module _ (pieces : List Piece) (s : List ℕ) (f : Frame) (few : length pieces < 65_536) (wide : f .width < 65_536) (high : f .height < 65_536) where
   pub exactly : Bytes s → (next : ℕ) (t : Tally) → (partAt pieces s f ≡ Part.Read next t) ↔ ReadAs pieces s f next t
   exactly b next t = (
@@ -162,7 +162,7 @@ module _ (pieces : List Piece) (s : List ℕ) (f : Frame) (few : length pieces <
   one-tree r q =
       same-encoding pieces few (r .tree) (q .tree) _ _ wide high (r .valid) (q .valid) _ _ (sym (r .found .bytes) ∙ q .found .bytes) .0
 
--- "Reading an encoded tree gives it back", here with its end and its sums.
+-- The nodes of a tree, when they are read, give its end and its sums (rule 8.10).
 pub gives-back : (pieces : List Piece) (t : Tree) (x y : ℕ) → length pieces < 65_536 → x < 65_536 → y < 65_536 → Valid pieces t x y
     → partAt pieces (encode t) (frame 0 x y) ≡ Part.Read (length (encode t)) (tallyOf pieces t x y)
 gives-back pieces t x y few wide high v =

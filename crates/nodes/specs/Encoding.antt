@@ -1,4 +1,4 @@
--- "Then the nodes, a line before its left or lower part and that before the other."
+-- The nodes of a tree: that of a line, then all of its near part, then all of its far part (rule 8.6).
 use Prim.Native.Nat.{ℕ}
 use mathlib.Core.List.{List, _∷_, _++_}
 use mathlib.Core.Bool.{Bool, cond}
@@ -6,7 +6,7 @@ use Rattle.cutting.specs.Tree.{Tree}
 use Rattle.fields.specs.Format.{letterV, letterH, letterP, letterS}
 use Rattle.fields.specs.Number.{bytes2}
 
--- "Three bytes each: a letter and a two-byte number."
+-- A node: its letter, and its number in two bytes (rule 8.5).
 unfoldable pub node : ℕ → ℕ → List ℕ
 node letter number = letter ∷ bytes2 number
 
@@ -14,7 +14,7 @@ node letter number = letter ∷ bytes2 number
 abbrev pub letterOf : Bool → ℕ
 letterOf tall = cond tall letterH letterV
 
--- "V" c, "H" d, "P" piece number, "S" 0.
+-- Each node has its letter and its number (rule 8.5), in the order of the file (rule 8.6).
 unfoldable pub encode : Tree → List ℕ
 encode (Tree.line tall c s t) = node (letterOf tall) c ++ (encode s ++ encode t)
 encode (Tree.pieceP k) = node letterP k

@@ -24,14 +24,14 @@ Written Tree.scrapS = Unit {0}
 
 -- One node, judged by the rules for its part, which is x by y.
 
--- "a line not inside its rectangle"
+-- A line lies inside the side that it goes through (rule 8.10).
 unfoldable pub isInside : ℕ → ℕ → Bool
 isInside side c = leb 1 c && leb c (side - 1)
 
 abbrev pub lineNode : Bool → ℕ → ℕ → Node
 lineNode tall side c = cond (isInside side c) (Node.Line tall c) Node.Broken
 
--- "a piece number outside 1 to n or of another size"
+-- k is the number of a piece of exactly this size (rule 8.10).
 unfoldable pub isPiece : List Piece → ℕ → ℕ → ℕ → Bool
 isPiece pieces k x y =
     leb 1 k && (leb k (length pieces) && (eqb (pieceAt pieces k .width) x && eqb (pieceAt pieces k .height) y))
@@ -39,11 +39,11 @@ isPiece pieces k x y =
 abbrev pub pieceNode : List Piece → ℕ → ℕ → ℕ → Node
 pieceNode pieces k x y = cond (isPiece pieces k x y) (Node.Piece k) Node.Broken
 
--- "S with a number other than 0"
+-- A scrap has the number 0 (rule 8.10).
 abbrev pub scrapNode : ℕ → Node
 scrapNode number = cond (eqb number 0) Node.Scrap Node.Broken
 
--- "a letter not in VHPS"
+-- Each of the four letters has its test, any other is broken (rule 8.10).
 unfoldable pub letterNode : List Piece → ℕ → ℕ → ℕ → ℕ → Node
 letterNode pieces letter number x y =
     cond (eqb letter letterV)
@@ -54,21 +54,21 @@ letterNode pieces letter number x y =
     (pieceNode pieces number x y)
     (cond (eqb letter letterS) (scrapNode number) Node.Broken)))
 
--- "nodes that end before the tree does"
+-- The node is whole: its three bytes are there (rule 8.10).
 unfoldable pub nodeAt : List Piece → List ℕ → Frame → Node
 nodeAt pieces s f =
     cond (leb (f .at + nodeLength) (length s))
     (letterNode pieces (getD s (f .at) 0) (number2Of s (f .at + 1)) (f .width) (f .height))
     Node.Broken
 
--- "A part is read and, if it is a line, its two parts are read by the same rules."
+-- A part is read by its node; behind a line come its two parts, which are read in the same way (rule 8.6).
 
 -- A part that was read: the place after its nodes, and its leaves added up. Or a rule was broken.
 pub data Part : Type 0 where
   Read : ℕ → Tally → Part
   Broken : Part
 
--- "Each area is the sum over its own leaves", and so is the value: what one leaf adds, and what two parts add up to.
+-- Areas (rule 2.7) and value (rule 8.8) add up over the leaves: what one leaf adds, and what two parts add up to.
 abbrev pub tally : ℕ → ℕ → ℕ → Tally
 tally value pieces scrap = record { value = value; pieces = pieces; scrap = scrap }
 
@@ -146,7 +146,7 @@ pub record RoomFor (sums : List ℕ) (t : Tally) : Type 0 where
   pub pieces : getD sums 1 0 + t .pieces < 2 ^ 32
   pub scrap : getD sums 2 0 + t .scrap < 2 ^ 32
 
--- What a part's reader may rely on: pieces in range, a rectangle ("both at least 1"), and room for the most that it can add.
+-- What a part's reader may rely on: pieces in range, a rectangle (rule 2.1), and room for the most that it can add.
 pub record MayRead (pieces : List Piece) (x y : ℕ) (sums : List ℕ) : Type 0 where
   pub few : length pieces ≤ entries
   pub range : InRange (Lays pieces)

@@ -15,7 +15,7 @@ use fields::format::PIECE;
 use fields::format::SCRAP;
 use fields::format::VERTICAL;
 
-// "V" c and "H" d, through a side.
+// `V` and c, `H` and d: a line through a side (rule 8.5).
 fn line_node(tall: bool, side: usize, number: u16) -> Node
     ensures { λ r. ⌜ r ≡ lineNode tall side number ⌝ }
 {
@@ -29,7 +29,7 @@ fn line_node(tall: bool, side: usize, number: u16) -> Node
     Node::Line(tall, number)
 }
 
-// "P" piece number, of exactly this size.
+// `P` and the number of a piece of exactly this size (rule 8.5).
 fn piece_node(board: &Board, number: u16, width: usize, height: usize) -> Node
     requires { ⌜ countOn (now board) ≤ entries ⌝ }
     ensures { λ r. ⌜ r ≡ pieceNode (piecesOn (now (board .entry))) number width height ⌝ }
@@ -51,7 +51,7 @@ fn piece_node(board: &Board, number: u16, width: usize, height: usize) -> Node
     Node::Piece(number)
 }
 
-// "S" 0.
+// `S` and 0 (rule 8.5).
 fn scrap_node(number: u16) -> Node
     ensures { λ r. ⌜ r ≡ scrapNode number ⌝ }
 {

@@ -36,7 +36,7 @@ module _ (job : Job) (t : List ℕ) (usable : Usable job t) (best : HoldsBest jo
     box-best : (u w : ℕ) → Inside u w x y → Best (layOf job) u w (cellOf (job .width) t u w)
     box-best u w j = best u w (omega arith) (full u w j)
 
-    -- A full box can be read, and rule 6 strikes nowhere in it.
+    -- A full box can be read, and rule 6.6 strikes nowhere in it.
     pub best-readable : Readable job t x y
     best-readable = record { usable = usable; inside = i; full = full; bounded = λ u w j h. best-bound (usable .range .pieces) (box-best u w j) }
 
@@ -52,7 +52,7 @@ module _ (job : Job) (t : List ℕ) (usable : Usable job t) (best : HoldsBest jo
     best-dissects : Dissects (piecesOf job) (treeFor job t x y) x y (cellOf (job .width) t x y)
     best-dissects = tree-dissects job t x y best-readable best-tree
 
-  -- "On a table kept so, refusal 7 never arises".
+  -- Rule 7.7 never applies on such a table.
   pub never-seven : (room : ℕ) → PlanRefusal job t x y room alienTable → ⊥
   unfolding planRefusals rowsBefore everyNumber PassesAt StopsAt
   never-seven room g =

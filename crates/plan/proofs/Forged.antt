@@ -20,7 +20,7 @@ use Rattle.checker.specs.PlanFile.{body, pointers, summed, planBytes, PlanFile}
 use Rattle.plan.specs.declared.Planned.{Planned}
 use Rattle.plan.specs.Best.{PlansBest}
 
--- "K8: 2 by 3, one piece 2 by 3 value 6", and a job with the turned sheet and the turned piece.
+-- The job of K8, and a job with the turned sheet and the turned piece.
 abbrev asked : Job
 asked = jobOf 2 3 (sized 2 3 6 ∷ [])
 

@@ -1,4 +1,4 @@
--- The promise of plan says what document 01 says, neither more nor less.
+-- The promise of plan says what the rules say, neither more nor less (rule 11.1).
 use Prim.Native.Nat.{ℕ, zero, suc}
 use mathlib.Core.List.{List}
 use mathlib.Core.Path.{_≡_, refl, ap, _∙_}

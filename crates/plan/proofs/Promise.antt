@@ -25,7 +25,7 @@ use Rattle.plan.proofs.Writing.{sheet-pieces}
 use Rattle.plan.proofs.Exactly.{plan-granted}
 use Rattle.plan.proofs.Answers.{cell-earned, file-short}
 
--- "Any two answers that satisfy it are shown equal": answer and all bytes.
+-- Two answers that keep the promise are equal (rule 11.2): answer and all bytes.
 pub plan-unique : (job : Job) (t : List ℕ) (x y : ℕ) (o : List ℕ) {r s : Planned} {p q : List ℕ} → PlanPromise job t x y o r p → PlanPromise job t x y o s q
     → (r ≡ s) × (p ≡ q)
 plan-unique job t x y o f g = (f .0 ∙ sym (g .0), f .1 ∙ sym (g .1))
@@ -55,7 +55,7 @@ module _ (job : Job) (t : List ℕ) (x y : ℕ) (o : List ℕ) where
     end : n ≡ 0 + length (planFile job t x y)
     end = omega (arith, says .1)
 
-    -- The first bytes are the file, and "Bytes after that length stay."
+    -- The first bytes are the file (rule 4.10).
     pub plan-file : take n p ≡ planFile job t x y
     plan-file = ap₂ take end put-there ∙ put-front o 0 (planFile job t x y) (omega arith)
 

@@ -59,7 +59,7 @@ module _ (job : Job) (t : List ℕ) (x y : ℕ) (r : Readable job t x y) where
       subst (λ (b : List ℕ). Traceable b t (whole x y)) (sym e)
       (record { few = omega (arith, board-count job most, most); sized = sized; wanted = inl (omega arith); table = on-table (board-width job most) })
 
-  -- The tree that is traced is the tree by the rules, there is no other, and where rule 6 strikes there is none.
+  -- The tree that is traced is the tree by the rules, there is no other, and where rule 6.6 strikes there is none.
   pub tree-by-rules : tracesFor job t x y ≡ true → TreeFor job t x y (treeFor job t x y)
   tree-by-rules = traced-by-rules hold (r .usable .range .pieces) few (cellOf (job .width) t) x y (r .inside)
 
@@ -74,7 +74,7 @@ module _ (job : Job) (t : List ℕ) (x y : ℕ) (r : Readable job t x y) where
   pub tree-says : Says (tracesFor job t x y) ((tree : Tree) × TreeFor job t x y tree)
   tree-says = traces-says hold (r .usable .range .pieces) few (cellOf (job .width) t) x y (r .inside)
 
-  -- It dissects x by y and earns "the number in its cell", on any table.
+  -- It dissects x by y and earns the number in cell (x, y), on any table (rules 6.1 to 6.5).
   pub tree-dissects : {tree : Tree} → TreeFor job t x y tree → Dissects (piecesOf job) tree x y (cellOf (job .width) t x y)
   tree-dissects = rules-dissect (r .usable .range .pieces)
 

@@ -1,5 +1,4 @@
--- KHON_PLAN_ENOUGH of the header: "Bytes that are enough for the plan of x by y in a job with so many pieces: the block, the nodes
--- (fewer than two for each unit square, three bytes each) and the trailer."
+-- KHON_PLAN_ENOUGH of the header: room for the block, for fewer than two nodes on each unit square of x by y, and for the trailer.
 use Prim.Native.Nat.{ℕ, _+_, _-_, _*_}
 use Rattle.job.specs.Block.{blockLength}
 use Rattle.fields.specs.Format.{nodeLength, trailerLength}

@@ -28,7 +28,7 @@ use Rattle.plan.specs.Refusals.{Readable, planRefusals}
 use Rattle.plan.specs.declared.Planned.{Planned}
 use Rattle.plan.specs.declared.Planned.the-variants.{Written, Refused}
 
--- The tree with what the board holds of the job, whether tree rule 6 strikes nowhere in it, and its
+-- The tree with what the board holds of the job, whether rule 6.6 strikes nowhere in it, and its
 -- file. `rules-tree` and `tree-by-rules` say that it is the tree by the rules.
 abbrev pub treeFor : Job → List ℕ → ℕ → ℕ → Tree
 treeFor job t x y = traced (jobRows job) (cellOf (job .width) t) (whole x y)
@@ -39,7 +39,7 @@ tracesFor job t x y = traces (jobRows job) (cellOf (job .width) t) (whole x y)
 abbrev pub planFile : Job → List ℕ → ℕ → ℕ → List ℕ
 planFile job t x y = fileOf job x y (treeFor job t x y)
 
--- "Numbers we refuse with", those of plan: a test for each row, and the number that they compute.
+-- The refusals of plan (rule 4.16): a test for each row, and the number that they compute.
 
 -- The buffer has room for so many bytes.
 unfoldable pub planTests : Job → List ℕ → ℕ → ℕ → ℕ → List Bool
@@ -63,11 +63,11 @@ boxRows = 5
 unfoldable pub boxRefused : Job → List ℕ → ℕ → ℕ → ℕ
 boxRefused job t x y = numberGiven (take boxRows (planRefusals job t x y 0)) (take boxRows (planTests job t x y 0))
 
--- .. and those of the tree and its file: 7, "for plan also tree rule 6", and 8.
+-- .. and those of the tree and its file: 7, where rule 6.6 strikes, and 8.
 unfoldable pub fileRefused : Job → List ℕ → ℕ → ℕ → ℕ → ℕ
 fileRefused job t x y room = numberGiven (drop boxRows (planRefusals job t x y room)) (drop boxRows (planTests job t x y room))
 
--- The same by the length of the nodes, 0 where rule 6 strikes.
+-- The same by the length of the nodes, 0 where rule 6.6 strikes.
 unfoldable pub fileNumber : ℕ → ℕ → ℕ → ℕ
 fileNumber count nodes room = cond (eqb nodes 0) alienTable (cond (leb (blockLength count + nodes + trailerLength) room) 0 shortBuffer)
 
@@ -96,7 +96,7 @@ PlanPromise job t x y o r o' = (r ≡ planned job t x y (length o)) × (o' ≡ p
 
 -- What check makes of a planned file.
 
--- "check accepts" the file, "with note length 0", this value, and areas that together make x by y.
+-- Check accepts the file, with no note, this value, and areas that together make x by y (rules 2.7 and 4.11).
 pub record AcceptedAs (file : List ℕ) (x y value : ℕ) : Type 0 where
   pub pieceArea : ℕ
   pub scrapArea : ℕ

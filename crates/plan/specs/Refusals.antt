@@ -1,4 +1,4 @@
--- "Numbers we refuse with", those of plan: each number "exactly when", in the order in which plan looks.
+-- The refusals of plan: when each number is given, exactly, in the order in which plan looks (rule 4.16).
 use Prim.Native.Nat.{ℕ, _≤_}
 use mathlib.Core.List.{List, [], _∷_}
 use lib.ListN.{length}
@@ -19,7 +19,7 @@ pub record Readable (job : Job) (t : List ℕ) (x y : ℕ) : Type 0 where
   pub full : Full (job .width) t x y
   pub bounded : Bounded (cellOf (job .width) t) x y
 
--- There is a tree by the rules: rule 6 strikes nowhere.
+-- There is a tree by the rules: rule 6.6 strikes nowhere.
 abbrev pub HasTree : Job → List ℕ → ℕ → ℕ → Type 0
 HasTree job t x y = (tree : Tree) × TreeFor job t x y tree
 
@@ -27,9 +27,8 @@ HasTree job t x y = (tree : Tree) × TreeFor job t x y tree
 abbrev pub HasRoom : Job → List ℕ → ℕ → ℕ → ℕ → Type 0
 HasRoom job t x y room = (tree : Tree) × TreeFor job t x y tree × (length (fileOf job x y tree) ≤ room)
 
--- "1: a side, n or a piece of the job is outside its range"; "2: the table has fewer than a·b cells"; "3: x isn't 1 to a or y isn't
--- 1 to b"; "6: a cell in the box is empty"; "7: a non-empty cell (u, w) in the box exceeds u·w·65,535; for plan also tree rule 6";
--- "8: the file is longer than the buffer"
+-- The job, the table, the rectangle (rules 7.1 to 7.3), an empty cell (rule 7.6), a filled one with too large a number, then
+-- rule 6.6 (both rule 7.7), and the buffer (rule 7.8).
 unfoldable pub planRefusals : Job → List ℕ → ℕ → ℕ → ℕ → List Row
 planRefusals job t x y room =
     unless badJob (JobInRange job)

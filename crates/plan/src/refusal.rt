@@ -14,10 +14,10 @@ use fields::format::TRAILER_LENGTH;
 use job::Job;
 use job::block::block_length;
 
-// A cell in the box is empty.
+// Rule 7.6: the box isn't full.
 pub const EMPTY_CELL: u32 = 6;
 
-// The file is longer than the buffer.
+// Rule 7.8: the buffer has no room for the file.
 pub const LONG: u32 = 8;
 
 pub fn box_refused(job: Job, t: &[u32], x: u32, y: u32) -> u32
@@ -47,7 +47,7 @@ fn file_length(count: u16, nodes: usize) -> usize
     block_length(wide(count)) + nodes + TRAILER_LENGTH
 }
 
-// Rule 6 strikes where the nodes have no length; else the file has room, or not.
+// Rule 6.6 strikes where the nodes have no length; else the file has room, or not.
 pub fn file_refused(count: u16, nodes: usize, room: usize) -> u32
     requires { ⌜ nodes ≤ lengthMost ⌝ }
     ensures { λ r. ⌜ r ≡ fileNumber count nodes room ⌝ }

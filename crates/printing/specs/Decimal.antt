@@ -1,10 +1,10 @@
--- "numbers are decimal"
+-- Numbers in decimal (rule 9.6).
 use Prim.Native.Nat.{ℕ, zero, suc, _+_, _/_, _%_}
 use mathlib.Core.Bool.{cond}
 use mathlib.Core.List.{List, [], _∷_, _++_}
 use lib.Dec.{ltb}
 
--- The byte of a digit: "0" is 48.
+-- The byte of a digit: that of 0 is 48.
 unfoldable pub digit : ℕ → ℕ
 digit n = 48 + n
 

@@ -1,4 +1,4 @@
--- The text buffer has room for every text: "one line per node" of a plan that its buffer holds.
+-- The text buffer has room for every text: a line for each node (rule 9.5) of a plan that its buffer holds.
 use Prim.Native.Nat.{ℕ, zero, suc, _*_, _≤_, _<_}
 use mathlib.Core.Bool.{Bool, true, false, cond}
 use mathlib.Core.Path.{_≡_, refl}

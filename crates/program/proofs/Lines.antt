@@ -1,4 +1,4 @@
--- The listing of the whole stock, read off its plan file.
+-- The listing of the whole sheet, read off its plan file.
 use Prim.Native.Nat.{ℕ, _+_}
 use mathlib.Core.Path.{_≡_, refl, sym, ap, subst, _∙_}
 use mathlib.Core.List.{List, _++_}

@@ -12,7 +12,7 @@ use Rattle.program.specs.Program.{programText}
 use Rattle.program.specs.Promise.{ProgramPromise}
 use Rattle.program.proofs.Fits.{text-fits}
 
--- "Any two answers that satisfy it are shown equal": length and all bytes.
+-- Two answers that keep the promise are equal (rule 11.2): length and all bytes.
 pub program-unique : (block o : List ℕ) {r s : ℕ} {p q : List ℕ} → ProgramPromise block o r p → ProgramPromise block o s q → (r ≡ s) × (p ≡ q)
 program-unique block o f g = (f .0 ∙ sym (g .0), f .1 ∙ sym (g .1))
 

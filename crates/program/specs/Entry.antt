@@ -1,4 +1,4 @@
--- "It reads one job block from standard input, adds its pieces": each with the answer and the cells that the one before left.
+-- A block's sheet is opened and its pieces added (rule 9.1), each with the answer and the cells that the one before left.
 use Prim.Native.Nat.{ℕ, zero, suc}
 use mathlib.Core.List.{List}
 use lib.ListN.{getD}

@@ -1,4 +1,4 @@
--- "It reads one job block from standard input, adds its pieces, asks and plans the whole stock, and prints."
+-- The text that the program prints for its input (rule 9.1).
 use Prim.Native.Nat.{ℕ, zero, suc}
 use mathlib.Core.Bool.{cond}
 use mathlib.Core.List.{List, _++_}
@@ -17,24 +17,24 @@ use Rattle.listing.specs.Listing.{listing}
 use Rattle.program.specs.Sizes.{tableCells, planRoom}
 use Rattle.program.specs.Entry.{entered}
 
--- "A refusal prints only "refused", a space and the number."
+-- A refusal's line and nothing else (rule 9.4), or the text.
 unfoldable pub textOr : ℕ → List ℕ → List ℕ
 textOr zero text = text
 textOr (suc k) text = refusedText (suc k)
 
--- "one line per node in file order", for the tree that plan writes.
+-- The lines of the tree that plan writes (rule 9.5).
 unfoldable pub treeLines : Job → List ℕ → List ℕ
 treeLines job t = listing (piecesOf job) 1 (treeFor job t (job .width) (job .height)) (job .width) (job .height)
 
--- "First line: value, and cells worked out. Then one line per node".
+-- The first line, and those of the tree (rule 9.5).
 unfoldable pub planText : Job → List ℕ → ℕ → ℕ → List ℕ
 planText job t value worked = headText value worked ++ treeLines job t
 
--- "plans the whole stock", into the plan buffer.
+-- The whole sheet is planned, into the plan buffer (rule 9.2).
 unfoldable pub plannedText : Job → List ℕ → ℕ → ℕ → List ℕ
 plannedText job t value worked = textOr (planRefused job t (job .width) (job .height) planRoom) (planText job t value worked)
 
--- "asks .. the whole stock"
+-- The whole sheet is asked (rule 9.1).
 unfoldable pub askedText : Job → List ℕ → List ℕ
 askedText job t =
     let a = job .width in
@@ -42,7 +42,7 @@ askedText job t =
     let after = filledFor job t a b in
     textOr (askRefused job t a b) (plannedText job after (cellOf a after a b) (countInBox a b (isEmpty a t)))
 
--- "adds its pieces"
+-- The job as it was entered, or the refusal of open or add (rules 9.2 and 9.3).
 unfoldable pub enteredText : Changed → List ℕ → List ℕ
 enteredText answer t = textOr (answer .refusal) (askedText (answer .job) t)
 
@@ -53,6 +53,6 @@ newTable = replicate tableCells 0
 unfoldable pub jobText : Job → List ℕ
 jobText from = enteredText (entered from newTable .answer) (entered from newTable .cells)
 
--- "A block shorter than 6 bytes, or whose length isn't 6 + 6n, or whose n is above 64, counts as refusal 1, in the program too."
+-- Bytes that are no job block (rule 4.14) get 1 (rule 9.3).
 unfoldable pub programText : List ℕ → List ℕ
 programText block = cond (fromBlock block .ok) (jobText (fromBlock block .job)) (refusedText badJob)

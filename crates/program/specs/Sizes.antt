@@ -3,7 +3,7 @@ use Prim.Native.Nat.{ℕ, _+_}
 use Rattle.cutting.specs.Limits.{piecesMax}
 use Rattle.job.specs.Block.{blockLength}
 
--- "Its table has 16,384 cells, its plan buffer 32,768 bytes."
+-- The cells of the table and the bytes of the plan buffer (rule 9.2).
 abbrev pub tableCells : ℕ
 tableCells = 16_384
 

@@ -1,5 +1,5 @@
-// The program's work: a job block in, the listing of its stock's plan out, or the line of a refusal.
-// entry.rt: the block's pieces, added one by one; whole.rt: the stock asked, planned and printed.
+// The program's work: a job block in, the listing of its sheet's plan out, or the line of a refusal.
+// entry.rt: the block's pieces, added one by one; whole.rt: the sheet asked, planned and printed.
 ghost use Rattle.program.specs.Promise.{ProgramPromise};
 use desk::refusal;
 use fields::cast::widened;

@@ -1,4 +1,4 @@
-// The whole stock: asked, planned and printed.
+// The whole sheet: asked, planned and printed.
 ghost use Rattle.job.specs.Range.{JobInRange};
 ghost use Rattle.printing.specs.Inner.{Printed};
 ghost use Rattle.program.specs.Inner.{ListsPlan, PrintsPlan};
@@ -21,7 +21,7 @@ use listing::line::put_refused;
 use listing::part::list;
 use plan::Planned;
 
-// The lines of the stock's tree, read off the nodes of its plan file.
+// The lines of the sheet's tree, read off the nodes of its plan file.
 fn list_for(job: Job, file: &[u8], text: &mut [u8], at: usize) -> usize
     requires { ⌜ JobInRange job ⌝ }
     ensures { λ r. ⌜ ListsPlan job (now (file .entry)) (now (text .entry)) at r (now (text .exit)) ⌝ }
@@ -47,7 +47,7 @@ fn print_plan(job: Job, file: &[u8], text: &mut [u8], value: u32, worked: u32) -
     list_for(job, file, text, next)
 }
 
-// Plans the stock of a job that was asked with this answer.
+// Plans the sheet of a job that was asked with this answer.
 fn print_asked(job: Job, cells: &[u32], text: &mut [u8], value: u32, worked: u32) -> usize
     ensures { λ r. ⌜ Printed (now (text .entry)) 0 (plannedText job (now (cells .entry)) value worked) r (now (text .exit)) ⌝ }
 {
@@ -59,7 +59,7 @@ fn print_asked(job: Job, cells: &[u32], text: &mut [u8], value: u32, worked: u32
     }
 }
 
-// Asks the stock of a job.
+// Asks the sheet of a job.
 fn print_job(job: Job, cells: &mut [u32], text: &mut [u8]) -> usize
     ensures { λ r. ⌜ Printed (now (text .entry)) 0 (askedText job (now (cells .entry))) r (now (text .exit)) ⌝ }
 {

@@ -43,7 +43,8 @@
  * A refused call changes nothing lent; its other numbers are 0, and the job
  * comes back as it was given (from khon_open: a job of zeros, which every
  * later call refuses with 1). Tests are made in the order of the numbers, so
- * the number is the least that applies.
+ * the number is the least that applies. khon_refusal_text has words for
+ * each number.
  */
 #ifndef KHONVERTSEG_H
 #define KHONVERTSEG_H
@@ -120,6 +121,43 @@ extern "C" {
                                 or bytes left after it */
 #define KHON_BAD_VALUE 13    /* check: the value stated isn't the sum of the
                                 pieces cut */
+
+/* What a refusal number says, in a few words for a message or a log: no
+   capital, no full stop, no line feed. Any number has some, none is null. */
+static inline const char *khon_refusal_text(uint32_t refusal) {
+    switch (refusal) {
+    case KHON_ACCEPTED:
+        return "accepted";
+    case KHON_BAD_JOB:
+        return "the job is out of range, or its block has the wrong length";
+    case KHON_SHORT_TABLE:
+        return "the table has fewer cells than width times height";
+    case KHON_OUTSIDE:
+        return "no piece has this number, or the rectangle isn't inside the sheet";
+    case KHON_BAD_PIECE:
+        return "the new piece is out of range";
+    case KHON_FULL:
+        return "the job has as many pieces as it can have";
+    case KHON_NOT_ASKED:
+        return "a cell under the rectangle is empty: ask first";
+    case KHON_ALIEN_TABLE:
+        return "no cutting earns what a cell holds: these calls didn't keep the table";
+    case KHON_SHORT_BUFFER:
+        return "the plan file is longer than the buffer";
+    case KHON_NO_PLAN_FILE:
+        return "not a plan file: its length or its way back to the block is out of range";
+    case KHON_BAD_SUM:
+        return "the plan file's running sum differs";
+    case KHON_BAD_BLOCK:
+        return "the plan file's block is out of range, or its trailer disagrees with it";
+    case KHON_BAD_NODES:
+        return "the plan file's nodes break a rule";
+    case KHON_BAD_VALUE:
+        return "the plan file's value isn't the sum of the pieces cut";
+    default:
+        return "unknown refusal number";
+    }
+}
 
 /* A kind of piece: its size in units, and what one of it earns. */
 typedef struct {

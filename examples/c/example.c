@@ -17,7 +17,7 @@ static uint8_t file[KHON_PLAN_ENOUGH(3, WIDTH, HEIGHT)];
 
 static void stop_if_refused(const char *call, uint32_t refusal) {
     if (refusal != KHON_ACCEPTED) {
-        printf("%s: refused %u\n", call, refusal);
+        printf("%s: refused %u, %s\n", call, refusal, khon_refusal_text(refusal));
         exit(1);
     }
 }

@@ -169,7 +169,7 @@ static void k5_to_k8(void) {
     add(2, 2, 5);
     CHECK(asked(ask(5, 4), 20, 20), "K6: 5 by 4 with the same piece earns 20", f->name);
     open(1, 2);
-    add(2, 1, 9);
+    add(2, 1, 1);
     CHECK(asked(ask(1, 2), 0, 2), "K7: 1 by 2 with 2 by 1 earns 0", f->name);
     open(2, 3);
     add(2, 3, 6);

@@ -33,7 +33,7 @@ pub widened : {lay : Lay} {x y e : ℕ} (z : ℕ) → 1 ≤ x → x ≤ z → Ea
 widened {lay} {x} {y} {e} z p h d =
     ⊎-elim (λ g. subst (λ (k : ℕ). Earns lay k y e) (omega arith) d) (λ g. trimmed z p g d) (le-or-lt z x)
 
--- Enlarging a rectangle loses nothing.
+-- Enlarging a rectangle loses nothing (rule 2.8).
 pub enlarged : {lay : Lay} {x y e : ℕ} (u w : ℕ) → 1 ≤ x → x ≤ u → 1 ≤ y → y ≤ w → Earns lay x y e → Earns lay u w e
 enlarged u w p h q k d = turned (widened w q k (turned (widened u p h d)))
 

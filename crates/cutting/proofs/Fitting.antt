@@ -1,4 +1,4 @@
--- Only what fits matters: the best value of x by y depends on the pieces that fit in it and on no other.
+-- Only what fits matters: the best value of x by y depends on the pieces that fit in it and on no other (rule 5.4).
 use Prim.Native.Nat.{ℕ, suc, _+_, _-_, _≤_, _<_}
 use mathlib.Core.Path.{_≡_, sym, ap, _∙_, subst}
 use mathlib.Core.Logic.{_⊎_, inl, inr, ⊎-elim, _↔_}

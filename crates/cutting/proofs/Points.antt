@@ -1,4 +1,4 @@
--- Herz, Theorem 1: narrowing a rectangle to a point of P, or of Q, loses nothing.
+-- Narrowing a rectangle to a point of P, or of Q, loses nothing (rule 3.4; Herz, Theorem 1).
 use Prim.Native.Nat.{ℕ, _+_, _-_, _≤_}
 use mathlib.Core.Logic.{⊎-elim}
 use mathlib.Core.Path.{_≡_, refl, sym, subst}

@@ -1,4 +1,4 @@
--- The rule: where the cells of all smaller rectangles hold their best values, the largest candidate is the best value (rule 4.8).
+-- The rule: where the cells of all smaller rectangles hold their best values, the largest candidate is the best value (rule 3.5).
 -- The dull lines can't beat the candidates: each dissection inside u by w is matched by a candidate of (u, w).
 use Prim.Native.Nat.{ℕ, _+_, _-_, _≤_, _<_}
 use mathlib.Core.Path.{refl, subst}

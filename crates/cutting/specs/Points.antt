@@ -1,4 +1,4 @@
--- The points of P and Q (rules 3.1 to 3.3), and what narrowing a rectangle to one leaves (Herz, Theorem 1).
+-- The points of P and Q (rules 3.1 to 3.3), and what narrowing a rectangle to one leaves (rule 3.4).
 use Prim.Native.Nat.{ℕ, _+_, _≤_}
 use mathlib.Core.Path.{_≡_}
 use Rattle.cutting.specs.Piece.{Lay, Turned}

@@ -115,7 +115,7 @@ demand-2-answered {job} {t} h x y i p = by (question (history-kept h) x y p)
     by (Question.answered z j f v n) = (z, subst (BestFor job x y) (sym v) (box-best job t (history-kept h) x y i f x y (omega (arith, i))))
     by (Question.refused h' q v n e) = absurd (h' (kept-answered job t (history-kept h) x y i q))
 
--- On a kept table rule 7.7 never applies to a question, inside the sheet or not.
+-- On a kept table refusal 7 never comes to a question (rule 10.8), inside the sheet or not.
 pub ask-never-seven : {job : Job} {t : List ℕ} → History job t → (x y : ℕ) {r : KhonAsked} {t' : List ℕ} → KhonAsks (blockOf job) t x y r t' → r .refusal ≡ 7
     → ⊥
 unfolding askRefusals rowsBefore everyNumber PassesAt StopsAt

@@ -99,7 +99,7 @@ plan-refused {job} {t} h x y o l k e = by (with-own (kept-block (history-kept h)
     by (Plans.written r b m) z = absurd (omega arith)
     by (Plans.refused {k = j} q) z = subst (PlanRefusal job t x y (length o)) z q
 
--- On a kept table rule 7.7 never applies to plan either ..
+-- On a kept table refusal 7 never comes from plan either (rule 10.8) ..
 pub plan-never-seven : {job : Job} {t : List ℕ} → History job t → (x y : ℕ) (o : List ℕ) {r : KhonPlanned} {p : List ℕ} → KhonPlans (blockOf job) t x y o r p
     → r .refusal ≡ 7 → ⊥
 plan-never-seven {job} {t} h x y o l e =
@@ -170,7 +170,7 @@ demand-2-checked file bytes {r} l a =
     same : {b d : Answer} → laidOut b ≡ laidOut d → b ≡ d
     same f = λ i. record { number = f i .refusal; value = f i .value; note = f i .note; pieceArea = f i .«piece_area»; scrapArea = f i .«scrap_area» }
 
--- KHON_PLAN_ENOUGH bytes hold every plan: with that room rule 7.8 never applies, on any table and for any block.
+-- KHON_PLAN_ENOUGH bytes hold every plan (rule 8.13): with that room rule 7.8 never applies, on any table and for any block.
 pub plan-never-eight : (block t : List ℕ) (x y : ℕ) (o : List ℕ) → planEnough (jobIn block .count) x y ≤ length o → {r : KhonPlanned} {p : List ℕ}
     → KhonPlans block t x y o r p → r .refusal ≡ 8 → ⊥
 plan-never-eight block t x y o enough l e = by (demand-1-plan block t x y o l .given) e

@@ -1,4 +1,4 @@
--- KHON_PLAN_ENOUGH of the header: room for the block, for fewer than two nodes on each unit square of x by y, and for the trailer.
+-- KHON_PLAN_ENOUGH of the header (rule 8.13): room for the block, for fewer than two nodes on each unit square of x by y, and for the trailer.
 use Prim.Native.Nat.{ℕ, _+_, _-_, _*_}
 use Rattle.job.specs.Block.{blockLength}
 use Rattle.fields.specs.Format.{nodeLength, trailerLength}

@@ -5,11 +5,9 @@ use borrow.Author.Needs.{needs}
 use Rattle.khonvertseg.proofs.ask_block.Statement.{statement}
 use Rattle.khonvertseg.proofs.ask_block.Tie as tie
 
--- src/lib.rt:131:9
 returns : tie.Need-returns
 returns c = block-refused _ (c .before .before .from-block .ensures) (c .if1 .taken)
 
--- src/lib.rt:125:1
 returns-2 : tie.Need-returns-2
 returns-2 c =
     let at-if = c .before .before .before .before .before in

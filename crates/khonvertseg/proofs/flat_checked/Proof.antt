@@ -5,11 +5,9 @@ use borrow.Author.Needs.{needs}
 use Rattle.khonvertseg.proofs.flat_checked.Statement.{statement}
 use Rattle.khonvertseg.proofs.flat_checked.Tie as tie
 
--- src/lib.rt:66:1
 returns : tie.Need-returns
 returns c = sym (ap flatChecked (c .before .answer .given .1))
 
--- src/lib.rt:66:1
 returns-2 : tie.Need-returns-2
 returns-2 c = sym (ap flatChecked (c .before .answer2 .given .1))
 

@@ -4,7 +4,6 @@ use borrow.Author.Needs.{needs}
 use Rattle.khonvertseg.proofs.khon_add.Statement.{statement}
 use Rattle.khonvertseg.proofs.khon_add.Tie as tie
 
--- src/lib.rt:100:1
 returns : tie.Need-returns
 returns c = record { answer = _; keeps = add-exactly _ _ _ .0 (c .before .before .before .add .ensures); laid = c .flat-changed .ensures }
 

@@ -3,7 +3,6 @@ use borrow.Author.Needs.{needs}
 use Rattle.khonvertseg.proofs.khon_ask.Statement.{statement}
 use Rattle.khonvertseg.proofs.khon_ask.Tie as tie
 
--- src/lib.rt:137:1
 returns : tie.Need-returns
 returns c = record { answer = _; keeps = c .before .before .before .ask-block .ensures; laid = c .flat-asked .ensures }
 

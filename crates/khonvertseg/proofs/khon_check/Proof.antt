@@ -6,7 +6,6 @@ use borrow.Author.Needs.{needs}
 use Rattle.khonvertseg.proofs.khon_check.Statement.{statement}
 use Rattle.khonvertseg.proofs.khon_check.Tie as tie
 
--- src/lib.rt:145:1
 returns : tie.Need-returns
 returns c =
     let at-known = c .before .before in

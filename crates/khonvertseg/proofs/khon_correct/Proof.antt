@@ -4,7 +4,6 @@ use borrow.Author.Needs.{needs}
 use Rattle.khonvertseg.proofs.khon_correct.Statement.{statement}
 use Rattle.khonvertseg.proofs.khon_correct.Tie as tie
 
--- src/lib.rt:108:1
 returns : tie.Need-returns
 returns c = record { answer = _; keeps = correct-exactly _ _ _ _ .0 (c .before .before .before .correct .ensures); laid = c .flat-changed .ensures }
 

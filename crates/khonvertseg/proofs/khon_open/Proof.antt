@@ -4,7 +4,6 @@ use borrow.Author.Needs.{needs}
 use Rattle.khonvertseg.proofs.khon_open.Statement.{statement}
 use Rattle.khonvertseg.proofs.khon_open.Tie as tie
 
--- src/lib.rt:92:1
 returns : tie.Need-returns
 returns c = record { answer = _; keeps = open-exactly _ _ _ .0 (c .before .before .before .«open» .ensures); laid = c .flat-changed .ensures }
 

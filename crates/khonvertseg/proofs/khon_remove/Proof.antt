@@ -4,7 +4,6 @@ use borrow.Author.Needs.{needs}
 use Rattle.khonvertseg.proofs.khon_remove.Statement.{statement}
 use Rattle.khonvertseg.proofs.khon_remove.Tie as tie
 
--- src/lib.rt:116:1
 returns : tie.Need-returns
 returns c = record { answer = _; keeps = remove-exactly _ _ _ .0 (c .before .before .before .remove .ensures); laid = c .flat-changed .ensures }
 

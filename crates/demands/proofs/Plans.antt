@@ -126,7 +126,7 @@ block-written block t x y o {p = p} (WithBlock.shaped s a) z =
     (w .0, w .1, w .2, subst (λ (c : Planned). PlanPromise (jobIn block) t x y o c p) (w .2) (plan-exactly (jobIn block) t x y o .1 a))
 block-written block t x y o (WithBlock.shapeless h) z = absurd (omega arith)
 
--- Whatever plan writes, on any table and for any block, check accepts: with that value, with no note, and with areas that make x by y.
+-- Whatever plan writes, on any table and for any block, check accepts (rule 10.9): with that value, with no note, and with areas that make x by y.
 pub planned-accepted : (block t : List ℕ) (x y : ℕ) (o : List ℕ) {r : KhonPlanned} {p : List ℕ} → KhonPlans block t x y o r p → r .refusal ≡ 0
     → Bytes (take (r .length) p) → {c : KhonChecked} → KhonChecks (take (r .length) p) c
     → (c .refusal ≡ 0) × (c .value ≡ r .value) × (c .note ≡ 0) × (c .«piece_area» + c .«scrap_area» ≡ x * y)

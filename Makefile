@@ -44,7 +44,7 @@ $(PROGRAM): $(SOURCES)
 
 # Every symbol is bound when the library is loaded, so that no first call takes the linker's stack.
 shared: $(SHARED) ## target/shared/libkhonvertseg.so, for C and for languages that load a library
-$(SHARED): $(ARCHIVE) tools/khonvertseg.map include/khonvertseg.h
+$(SHARED): $(ARCHIVE) tools/khonvertseg.map include/khonvertseg.h Makefile
 	@mkdir -p $(@D)
 	$$(tools/compiler) -shared -o $@ -Wl,-soname,libkhonvertseg.so.$(MAJOR) -Wl,--version-script,tools/khonvertseg.map \
 	    -Wl,-z,defs -Wl,-z,text -Wl,-z,noexecstack -Wl,-z,now -Wl,--whole-archive $(ARCHIVE) -Wl,--no-whole-archive

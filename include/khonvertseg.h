@@ -1,10 +1,10 @@
 /*
  * Khonvertseg: the best guillotine cutting of one sheet into valued pieces.
  *
- * Link with libkhonvertseg.a (x86-64). Everything here works on what the
- * caller lends: the library allocates nothing, keeps nothing between two
- * calls and has no global state, so calls on different rows may run at the
- * same time in different threads.
+ * Link with libkhonvertseg.a or libkhonvertseg.so (x86-64). Everything here
+ * works on what the caller lends: the library allocates nothing, keeps nothing
+ * between two calls and has no global state, so calls on different rows may
+ * run at the same time in different threads.
  *
  * THE JOB. One sheet, width by height in whole units, and up to 64 kinds of
  * piece, numbered from 1, an unlimited number of each. A line runs through
@@ -55,6 +55,10 @@
 #ifdef __cplusplus
 extern "C" {
 #endif
+
+/* The first number is raised when a struct, a call or a refusal number changes
+   for callers, the second when something is added, the third for all else. */
+#define KHON_VERSION "1.1.0"
 
 /* Limits. Every number below is at least 1, except the count of pieces. */
 #define KHON_SIDE_MAX 240     /* a sheet's width and its height */

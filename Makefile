@@ -3,8 +3,8 @@
 
 PREFIX ?= /usr/local
 
-# The program is one for x86-64: on another machine the kit's emulator runs it.
-ON := $(shell [ "$$(uname -m)" = x86_64 ] || echo "$$(dirname "$$(dirname "$$(rt doc)")")/on/$$(uname -m)/toolchain/bin/qemu-x86_64")
+# The program is one for x86-64: on another machine an emulator runs it.
+ON = $(shell tools/emulator)
 
 # A sheet of 3 by 3, and two kinds of piece: 1 by 2 worth 2, 2 by 3 worth 6.
 run:

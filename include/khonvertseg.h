@@ -145,7 +145,7 @@ static inline const char *khon_refusal_text(uint32_t refusal) {
     case KHON_NOT_ASKED:
         return "a cell under the rectangle is empty: ask first";
     case KHON_ALIEN_TABLE:
-        return "no cutting earns what a cell holds: these calls didn't keep the table";
+        return "some cell of the table is wrong: these calls didn't keep it";
     case KHON_SHORT_BUFFER:
         return "the plan file is longer than the buffer";
     case KHON_NO_PLAN_FILE:

@@ -20,7 +20,7 @@ REFUSAL_TEXTS = (
     "the new piece is out of range",
     "the job has as many pieces as it can have",
     "a cell under the rectangle is empty: ask first",
-    "no cutting earns what a cell holds: these calls didn't keep the table",
+    "some cell of the table is wrong: these calls didn't keep it",
     "the plan file is longer than the buffer",
     "not a plan file: its length or its way back to the block is out of range",
     "the plan file's running sum differs",

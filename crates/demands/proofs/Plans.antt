@@ -55,8 +55,12 @@ asked-covers (History.asking h m n p) x y u w i s =
     ⊎-elim (λ a. inl (asked-covers h x y u w i a)) (λ q. inr (q .0, record { wide = omega (arith, q .1 .wide, i); high = omega (arith, q .1 .high, i) })) s
 asked-covers (History.elsewhere h s) x y u w i n = asked-covers h x y u w i n
 
+covered-full : {job : Job} {t : List ℕ} (h : History job t) (x y : ℕ) → OnSheet job x y → ((u w : ℕ) → Inside u w x y → Covered h u w)
+    → Full (job .width) t x y
+covered-full h x y i covered u w j = demand-3-filled h u w (omega arith) .1 (covered u w j)
+
 asked-full : {job : Job} {t : List ℕ} (h : History job t) (x y : ℕ) → OnSheet job x y → AskedSince h x y → Full (job .width) t x y
-asked-full h x y i n u w j = demand-3-filled h u w (omega arith) .1 (asked-covers h x y u w j n)
+asked-full h x y i n = covered-full h x y i (λ u w j. asked-covers h x y u w j n)
 
 -- Rule 10.3: what was asked is planned, and the plan earns its best value. Room: the file of the tree for x by y is no longer than the buffer.
 pub demand-2-planned : {job : Job} {t : List ℕ} (h : History job t) (x y : ℕ) → OnSheet job x y → AskedSince h x y → (o : List ℕ)
@@ -106,12 +110,12 @@ plan-never-seven {job} {t} h x y o l e =
     let k = history-kept h in
     never-seven job t (k .usable) (k .best) x y (length o) (plan-refused h x y o l 6 e)
 
--- .. and refusal 6 only for what was not asked.
-pub plan-six : {job : Job} {t : List ℕ} (h : History job t) (x y : ℕ) (o : List ℕ) → OnSheet job x y → AskedSince h x y → {r : KhonPlanned} {p : List ℕ}
-    → KhonPlans (blockOf job) t x y o r p → r .refusal ≡ 6 → ⊥
-plan-six {job} {t} h x y o i n l e =
+-- .. and refusal 6 only where a cell of the box is not covered.
+pub plan-six : {job : Job} {t : List ℕ} (h : History job t) (x y : ℕ) (o : List ℕ) → OnSheet job x y → ((u w : ℕ) → Inside u w x y → Covered h u w)
+    → {r : KhonPlanned} {p : List ℕ} → KhonPlans (blockOf job) t x y o r p → r .refusal ≡ 6 → ⊥
+plan-six {job} {t} h x y o i covered l e =
     let k = history-kept h in
-    six-empty job t (k .usable) (k .best) x y (length o) (plan-refused h x y o l 5 e) (asked-full h x y i n)
+    six-empty job t (k .usable) (k .best) x y (length o) (plan-refused h x y o l 5 e) (covered-full h x y i covered)
 
 -- A plan that is not refused was written.
 was-written : (job : Job) (t : List ℕ) (x y : ℕ) (o : List ℕ) {d : Planned} {p : List ℕ} → Plans job t x y o d p → flatPlanned d .refusal ≡ 0

@@ -7,10 +7,10 @@
  * run at the same time in different threads.
  *
  * THE JOB. One sheet, width by height in whole units, and up to 64 kinds of
- * piece, numbered from 1, an unlimited number of each. A line runs through
- * from edge to edge, and both parts are cut in the same way. Pieces aren't
- * turned. A rectangle's best value is the most that any such cutting of it
- * can earn.
+ * piece with the numbers 1, 2 and so on; of each kind any number may be cut,
+ * and none is turned. Every cut goes from one edge to the opposite one, and
+ * what it leaves is cut again likewise. A rectangle's best value is the most
+ * that any such cutting of it can earn.
  *
  * THE TABLE. A row of 32-bit cells that the caller keeps beside the job, one
  * cell for each rectangle x by y that fits the sheet, at KHON_CELL(width, x, y).
@@ -41,8 +41,8 @@
  *
  * REFUSALS. Every answer has a refusal number, 0 when the call is accepted.
  * A refused call changes nothing lent; its other numbers are 0, and the job
- * comes back as it was given (from khon_open: a job of zeros, which every
- * later call refuses with 1). Tests are made in the order of the numbers, so
+ * comes back as it was given (from khon_open: a job of zeros, and whatever
+ * call is given that refuses it with 1). Tests go in the order of numbers, so
  * the number is the least that applies. khon_refusal_text has words for
  * each number.
  */
@@ -94,23 +94,24 @@ extern "C" {
 /* Refusal numbers: which calls give them, and exactly when. */
 #define KHON_ACCEPTED 0
 #define KHON_BAD_JOB 1       /* open, add, correct, remove, ask, plan: a side,
-                                the count or a piece of the job is outside its
-                                range; ask, plan: also a block shorter than 6
-                                bytes, or not 6 + 6 * count bytes long */
+                                the count or one of the pieces is out of range;
+                                ask, plan: also a block of fewer than 6 bytes,
+                                or not of 6 + 6 * count bytes */
 #define KHON_SHORT_TABLE 2   /* open, add, correct, remove, ask, plan: fewer
                                 than width * height cells are lent */
 #define KHON_OUTSIDE 3       /* correct, remove: the number isn't 1 to count;
                                 ask, plan: x isn't 1 to width or y isn't 1 to
                                 height */
-#define KHON_BAD_PIECE 4     /* add, correct: the new piece is outside its
-                                range */
+#define KHON_BAD_PIECE 4     /* add, correct: the new piece is out of range */
 #define KHON_FULL 5          /* add: the job has 64 pieces already */
 #define KHON_NOT_ASKED 6     /* plan: a cell (u, w), u <= x and w <= y, is
                                 empty; ask for x by y first */
 #define KHON_ALIEN_TABLE 7   /* ask, plan: a cell (u, w), u <= x and w <= y,
                                 isn't empty and exceeds u * w * 65535; plan:
-                                also, no cutting explains a cell's number. This
-                                never arises on a table kept by these calls */
+                                also, a cell's number is explained by no piece
+                                and by no two cells of a line that is tried
+                                (rule 6.6). Never on a table that these calls
+                                kept */
 #define KHON_SHORT_BUFFER 8  /* plan: the file is longer than the buffer */
 #define KHON_NO_PLAN_FILE 9  /* check: the length is out of range, or the
                                 trailer's way back to the job block is under 9
@@ -118,11 +119,10 @@ extern "C" {
 #define KHON_BAD_SUM 10      /* check: the running sum differs */
 #define KHON_BAD_BLOCK 11    /* check: the job block is out of range, or the
                                 trailer's two ways back disagree with it */
-#define KHON_BAD_NODES 12    /* check: an unknown letter, scrap with a number
-                                other than 0, a piece number outside 1 to count
-                                or of another size, a line not inside its
-                                rectangle, nodes that end before the tree does,
-                                or bytes left after it */
+#define KHON_BAD_NODES 12    /* check: a letter other than V, H, P and S; an S
+                                whose number isn't 0; a P without such a piece,
+                                or not of its size; a line on an edge or beyond
+                                it; nodes that are missing or left over */
 #define KHON_BAD_VALUE 13    /* check: the value stated isn't the sum of the
                                 pieces cut */
 
@@ -220,7 +220,7 @@ khon_changed khon_add(khon_job job, uint32_t *cells, size_t cells_len,
 khon_changed khon_correct(khon_job job, uint32_t *cells, size_t cells_len,
                           uint32_t number, khon_piece piece);
 
-/* Takes out piece number `number`; later pieces move down by one number.
+/* Takes out piece number `number`; each one after it gets a number one less.
    Lent: cells; those where that piece fits are emptied, all others stay.
    Refusals: 1, 2, 3. */
 khon_changed khon_remove(khon_job job, uint32_t *cells, size_t cells_len,
@@ -234,8 +234,9 @@ khon_changed khon_remove(khon_job job, uint32_t *cells, size_t cells_len,
 khon_asked khon_ask(const uint8_t *block, size_t block_len, uint32_t *cells,
                     size_t cells_len, uint32_t x, uint32_t y);
 
-/* Writes a plan that earns the number in the cell of x by y, for which x by y
-   (or a larger rectangle) must have been asked since the last change.
+/* Writes a plan that earns the number in the cell of x by y. Each cell of the
+   box u <= x, w <= y must be filled: it is when x by y, or a rectangle at least
+   as wide and as high, was asked and no change was accepted after that.
    Lent: block and cells, read only; file, of which the first `length` bytes
    of the answer are written and those after stay. The plan file has no note
    and its block states x by y. KHON_PLAN_ENOUGH bytes always hold it.

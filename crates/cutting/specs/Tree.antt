@@ -6,7 +6,7 @@ use mathlib.Core.List.{List}
 use Rattle.cutting.specs.Piece.{Piece, pieceAt, Numbered}
 use Rattle.cutting.specs.Dissection.{rest, crossed, partWidth, partHeight, Line}
 
--- A line stands before its left or lower part, and that before the other part (rule 8.6).
+-- The line comes first, then its near part, then its far part (rule 8.6).
 pub data Tree : Type 0 where
   -- A vertical line, or a horizontal one (`tall`), at its number.
   line : (tall : Bool) → ℕ → Tree → Tree → Tree

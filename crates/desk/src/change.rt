@@ -96,7 +96,7 @@ pub fn correct(job: Job, t: &mut [u32], number: u32, piece: Piece) -> Changed
     }
 }
 
-// Takes piece `number` out; later pieces move down by one number.
+// Takes piece `number` out; each one after it gets a number one less.
 pub fn remove(job: Job, t: &mut [u32], number: u32) -> Changed
     ensures { λ r. ⌜ RemovePromise job (now (t .entry)) number r (now (t .exit)) ⌝ }
 {

@@ -16,7 +16,7 @@ use Rattle.laws.proofs.Says.{says-no}
 use Rattle.cutting.specs.Limits.{sideMax, piecesMax}
 use Rattle.cutting.specs.Piece.{Inside, InRange}
 use Rattle.cutting.specs.Dissection.{Best}
-use Rattle.cutting.specs.Tree.{Tree}
+use Rattle.cutting.specs.Tree.{Tree, Valid, earning}
 use Rattle.cutting.proofs.Rule.{table-best}
 use Rattle.cutting.proofs.Bound.{best-bound, most-mono}
 use Rattle.cells.specs.Cells.{empty, cellOf}
@@ -37,9 +37,11 @@ use Rattle.desk.proofs.Exactly.{open-number, ask-number}
 use Rattle.desk.proofs.Words.{filled-for}
 use Rattle.plan.specs.File.{TreeFor}
 use Rattle.plan.specs.Refusals.{Readable, HasRoom, planRefusals}
+use Rattle.plan.specs.Enough.{planEnough}
 use Rattle.plan.specs.Inner.{treeFor, planRefused}
 use Rattle.plan.proofs.Tracing.{rules-tree, tree-earns}
 use Rattle.plan.proofs.Exactly.{plan-number, plan-accepted}
+use Rattle.plan.proofs.Enough.{plan-enough}
 use Rattle.plan.proofs.Best.{best-readable, best-tree}
 use Rattle.listing.specs.Line.{refusedText}
 use Rattle.program.specs.Sizes.{tableCells, planRoom}
@@ -143,13 +145,15 @@ module _ (block : List ℕ) where
         sym (plan-number own filled a b planRoom .0
         (inr (usable .range, inr (usable-after .room, inr (whole, inr (full, inr (readable .bounded, inr ((tree, by-rules), inl (over, refl)))))))))
 
+    earned : Valid (piecesOf own) tree a b × (earning (piecesOf own) tree ≡ value)
+    earned = tree-earns own filled a b readable by-rules
+
     answered : PrintsBest block ⊎ PlanTooLong block
     unfolding planText treeLines textOr
     answered = ⊎-elim (λ h. inl (best h)) (λ h. inr (long h)) (le-or-lt (fileLength own tree) planRoom)
       where
         best : fileLength own tree ≤ planRoom → PrintsBest block
         best h =
-            let earned = tree-earns own filled a b readable by-rules in
             record {
               value = value;
               tree = tree;
@@ -165,6 +169,7 @@ module _ (block : List ℕ) where
         long h =
             record {
               tree = tree;
+              valid = earned .0;
               traced = traced;
               long = h;
               prints = plan-prints ∙ ap (λ (n : ℕ). textOr n (planText own filled value (a * b))) (without h);
@@ -234,3 +239,9 @@ module _ (block : List ℕ) where
     program-best range cells =
         let sides : Inside a b sideMax sideMax = omega (arith, range .widthLeast, range .widthMost, range .heightLeast, range .heightMost) in
         ⊎-elim (begun sides cells) (λ f. absurd (f .why (range .pieces))) (goes sides cells)
+
+    -- Where the buffer holds every plan of such a sheet (rule 8.13) it is always answered.
+    pub program-answers : JobInRange own → cellsOf own ≤ tableCells → planEnough (own .count) a b ≤ planRoom → PrintsBest block
+    program-answers range cells enough =
+        ⊎-elim (λ p. p) (λ l. absurd (omega (arith, enough, l .long, plan-enough own (l .valid) (range .widthLeast) (range .heightLeast))))
+        (program-best range cells)

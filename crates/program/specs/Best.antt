@@ -44,6 +44,7 @@ pub record PrintsBest (block : List ℕ) : Type 0 where
 -- Refusal 8 (rules 7.8 and 9.2): the file of the tree by the rules is longer than the plan buffer.
 pub record PlanTooLong (block : List ℕ) : Type 0 where
   pub tree : Tree
+  pub valid : Valid (piecesOf (jobIn block)) tree (jobIn block .width) (jobIn block .height)
   pub traced : BestTree (jobIn block) tree
   pub long : planRoom < fileLength (jobIn block) tree
   pub prints : programText block ≡ refusedText shortBuffer

@@ -92,7 +92,7 @@ module _ (job : Job) (t : List ℕ) where
 
   module _ (x y : ℕ) where
     -- The filled table of an accepted question is exactly the one that fills.
-    filled-for : AskRefusal job t x y 0 → (t' : List ℕ) → (t' ≡ filledFor job t x y) ↔ Fills (layOf job) (job .width) (job .height) x y t t'
+    pub filled-for : AskRefusal job t x y 0 → (t' : List ℕ) → (t' ≡ filledFor job t x y) ↔ Fills (layOf job) (job .width) (job .height) x y t t'
     unfolding filledFor
     filled-for g =
         let h = ask-granted job t x y (ask-number job t x y .0 g) refl in

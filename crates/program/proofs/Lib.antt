@@ -5,4 +5,6 @@ pub mod Texts
 pub mod Digits
 pub mod Fits
 pub mod Promise
+pub mod Begun
+pub mod Best
 pub mod Input

@@ -3,4 +3,5 @@ pub mod Sizes
 pub mod Entry
 pub mod Program
 pub mod Promise
+pub mod Best
 pub mod Inner

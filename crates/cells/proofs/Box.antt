@@ -12,7 +12,7 @@ use Rattle.laws.specs.Inner.{Says}
 use Rattle.laws.specs.Below.{sumBelow}
 use Rattle.laws.proofs.Says.{says-and, says-not, says-lt, says-eq, says-iff}
 use Rattle.laws.proofs.Below.{anyBelow-none, anyBelow-more, anyBelow-says, anyBelow-same, sumBelow-none, sumBelow-more, sumBelow-same}
-use Rattle.laws.proofs.Sums.{sumBelow-within, sumBelow-zero}
+use Rattle.laws.proofs.Sums.{sumBelow-within, sumBelow-zero, sumBelow-each}
 use Rattle.cutting.specs.Limits.{valueMax}
 use Rattle.cutting.specs.Piece.{Inside}
 use Rattle.cells.specs.Cells.{empty, cellOf}
@@ -150,3 +150,9 @@ countInBox-more x j test =
 pub countInBox-zero : (x y : ℕ) (test : ℕ → ℕ → Bool) → ((u w : ℕ) → Inside u w x y → test u w ≡ false) → countInBox x y test ≡ 0
 unfolding countInBox countInRow
 countInBox-zero x y test none = sumBelow-zero _ y (λ j h. sumBelow-zero _ x (λ i k. ap counted (none (suc i) (suc j) (omega arith))))
+
+-- All cells of a box.
+pub countInBox-all : (x y : ℕ) (test : ℕ → ℕ → Bool) → ((u w : ℕ) → Inside u w x y → test u w ≡ true) → countInBox x y test ≡ x * y
+unfolding countInBox countInRow
+countInBox-all x y test all =
+    sumBelow-each _ y x (λ j h. sumBelow-each _ x 1 (λ i k. ap counted (all (suc i) (suc j) (omega arith))) ∙ omega arith) ∙ mul-comm y x

@@ -24,3 +24,9 @@ pub sumBelow-zero : (f : ℕ → ℕ) (n : ℕ) → ((k : ℕ) → k < n → f k
 unfolding sumBelow
 sumBelow-zero f zero h = refl
 sumBelow-zero f (suc n) h = omega (arith, sumBelow-zero f n (λ k l. h k (omega arith)), h n (omega arith))
+
+-- A sum of equal numbers.
+pub sumBelow-each : (f : ℕ → ℕ) (n m : ℕ) → ((k : ℕ) → k < n → f k ≡ m) → sumBelow f n ≡ n * m
+unfolding sumBelow
+sumBelow-each f zero m h = omega arith
+sumBelow-each f (suc n) m h = omega (arith, suc-mul n m, h n (omega arith), sumBelow-each f n m (λ k l. h k (omega arith)))

@@ -1,13 +1,11 @@
 -- The program prints the best value and a plan that earns it, or exactly the refusal that the rules say (rules 9.2 to 9.5).
-use Prim.Native.Nat.{ℕ, zero, suc, _*_, _≤_, _<_}
-use mathlib.Core.Bool.{Bool, true}
+use Prim.Native.Nat.{ℕ, suc, _*_, _≤_, _<_}
+use mathlib.Core.Bool.{true}
 use mathlib.Core.List.{List}
 use mathlib.Core.Logic.{_⊎_, inl, inr, ⊎-elim}
 use mathlib.Core.Path.{_≡_, refl, sym, ap, _∙_, subst}
 use native.Mathlib.Omega.{arith}
-use native.Mathlib.Nat.{mul-comm, suc-mul}
 use lib.ListN.{length, length-replicate}
-use Rattle.laws.specs.Below.{sumBelow}
 use Rattle.laws.specs.ByIndex.{byIndex}
 use Rattle.laws.specs.Refusal.{Gives}
 use Rattle.laws.proofs.ByIndex.{byIndex-length}
@@ -20,8 +18,8 @@ use Rattle.cutting.specs.Tree.{Tree, Valid, earning}
 use Rattle.cutting.proofs.Rule.{table-best}
 use Rattle.cutting.proofs.Bound.{best-bound, most-mono}
 use Rattle.cells.specs.Cells.{empty, cellOf}
-use Rattle.cells.specs.Box.{counted, countInRow, countInBox, isEmpty}
-use Rattle.cells.proofs.Box.{isEmpty-says}
+use Rattle.cells.specs.Box.{countInBox, isEmpty}
+use Rattle.cells.proofs.Box.{isEmpty-says, countInBox-all}
 use Rattle.job.specs.declared.Job.{Job}
 use Rattle.job.specs.declared.Blocked.{Blocked}
 use Rattle.job.specs.Job.{piecesOf, layOf}
@@ -50,17 +48,6 @@ use Rattle.program.specs.Program.{textOr, treeLines, planText, plannedTe
 pub use Rattle.program.specs.Best.{BestTree, fileLength, PrintsBest, PlanTooLong}
 use Rattle.program.proofs.Texts.{or-text, entered-refused-text, entered-text, block-few, block-refused-text, block-text}
 use Rattle.program.proofs.Begun.{NoneFilled, all-still, Begun, BadPiece, enters}
-
--- All cells of a box.
-sum-each : (f : ℕ → ℕ) (n m : ℕ) → ((k : ℕ) → k < n → f k ≡ m) → sumBelow f n ≡ n * m
-unfolding sumBelow
-sum-each f zero m h = omega arith
-sum-each f (suc n) m h = omega (arith, suc-mul n m, h n (omega arith), sum-each f n m (λ k l. h k (omega arith)))
-
-count-all : (x y : ℕ) (test : ℕ → ℕ → Bool) → ((u w : ℕ) → Inside u w x y → test u w ≡ true) → countInBox x y test ≡ x * y
-unfolding countInBox countInRow
-count-all x y test all =
-    sum-each _ y x (λ j h. sum-each _ x 1 (λ i k. ap counted (all (suc i) (suc j) (omega arith))) ∙ omega arith) ∙ mul-comm y x
 
 -- Bytes that are no job block get 1 (rule 9.3).
 pub program-shapeless : (block : List ℕ) → (BlockShape block → ⊥) → programText block ≡ refusedText badJob
@@ -124,7 +111,7 @@ module _ (block : List ℕ) where
     traced = record { table = filled; cells = cells-best; byRules = by-rules }
 
     worked : countInBox a b (isEmpty a t) ≡ a * b
-    worked = count-all a b (isEmpty a t) (λ u w i. isEmpty-says a t u w .found (none u w i))
+    worked = countInBox-all a b (isEmpty a t) (λ u w i. isEmpty-says a t u w .found (none u w i))
 
     -- So ask is accepted, and plan's number decides what is printed: 0 or 8, by the length of the file.
     plan-prints : programText block ≡ textOr (planRefused own filled a b planRoom) (planText own filled value (a * b))

@@ -7,13 +7,14 @@
 PREFIX ?= /usr/local
 LIBDIR ?= $(PREFIX)/lib
 MANDIR ?= $(PREFIX)/share/man
-VERSION := $(shell sed -n 's/^.define KHON_VERSION "\(.*\)"/\1/p' include/khonvertseg.h)
+VERSION := $(shell sed -n 's/^.define KHON_VERSION "\([^"]*\)".*/\1/p' include/khonvertseg.h)
 MAJOR := $(firstword $(subst ., ,$(VERSION)))
 
 ARCHIVE := target/staticlib/libkhonvertseg.a
 SHARED := target/shared/libkhonvertseg.so
 PROGRAM := target/bin/guillotine
-SOURCES := crates.txt $(shell find crates -name '*.rt' -o -name '*.antt')
+# Folders too: they are newer when a file of theirs is gone. What begins with a dot is an editor's.
+SOURCES := crates.txt $(shell find crates -name must-fail -prune -o ! -name '.*' ! -name '* *' -print)
 
 all: archive shared program ## archive, shared library and program (when no target is named)
 
@@ -22,8 +23,7 @@ help: ## this list
 	@echo "Folders of install and uninstall: PREFIX (now $$PREFIX), LIBDIR, MANDIR; DESTDIR stands before each."
 
 run: ## cuts an example sheet, 3 by 3, with two kinds of piece: 1 by 2 worth 2, 2 by 3 worth 6
-	@mkdir -p target
-	@$(MAKE) -sq $(PROGRAM) || { \
+	@mkdir -p target && $(MAKE) -sq $(PROGRAM) || { \
 	    echo 'First the program is proved and built: two to three minutes from nothing. What rt says goes to target/run.log.'; \
 	    $(MAKE) -s $(PROGRAM) >target/run.log 2>&1 || { tail -n 20 target/run.log; exit 1; }; }
 	printf '3 3\n1 2 2\n2 3 6\n' | tools/cut
@@ -59,30 +59,33 @@ MAN := "$$DESTDIR$$MANDIR"
 # A file with version and folders filled in: from, to, mode.
 fill = rm -f $(2) && sed "s|@VERSION@|$(VERSION)|; s|@PREFIX@|$$PREFIX|; s|@LIBDIR@|$$LIBDIR|" $(1) >$(2) && chmod $(3) $(2)
 
-# What sed and pkg-config can't take in a name is refused.
+# What sed, pkg-config and install can't take in a name is refused.
 folders:
 	@for folder in "$$PREFIX" "$$LIBDIR" "$$MANDIR"; do \
-	    case $$folder in [!/]* | '' | *[\"\'\`\|\;\&\$$\#\\]*) \
-	        printf "make: the folder '%s' must begin with / and have none of \" ' \` | ; & $$ # \\\\\n" "$$folder" >&2; exit 1 ;; \
+	    case $$folder$$(printf '%s' "$$folder" | tr -dc '\n' | tr '\n' '#') in [!/]* | '' | *' ' | *[\"\'\`\|\;\&\$$\#\\]*) \
+	        printf "make: the folder '%s' must begin with / and have none of \" ' \` | ; & $$ # \\\\, no line feed, no blank at its end\n" "$$folder" >&2; exit 1 ;; \
 	    esac; done
+	@case $$DESTDIR in -*) echo 'make: DESTDIR must not begin with -' >&2; exit 1 ;; esac
 
 install: folders all ## commands, header, archive, shared library, pkg-config file, man pages (then perhaps ldconfig)
 	install -d $(BIN) $(INCLUDE) $(LIB)/pkgconfig $(MAN)/man1 $(MAN)/man3
-	install -m 755 $(PROGRAM) $(BIN)/guillotine
-	install -m 755 tools/block $(BIN)/khon-block
+	install -T -m 755 $(PROGRAM) $(BIN)/guillotine
+	install -T -m 755 tools/block $(BIN)/khon-block
 	$(call fill,tools/cut,$(BIN)/khon-cut,755)
-	install -m 644 include/khonvertseg.h $(INCLUDE)/khonvertseg.h
-	install -m 644 $(ARCHIVE) $(LIB)/libkhonvertseg.a
-	install -m 644 $(SHARED) $(LIB)/libkhonvertseg.so.$(VERSION)
-	ln -sf libkhonvertseg.so.$(VERSION) $(LIB)/libkhonvertseg.so.$(MAJOR)
-	ln -sf libkhonvertseg.so.$(MAJOR) $(LIB)/libkhonvertseg.so
+	install -T -m 644 include/khonvertseg.h $(INCLUDE)/khonvertseg.h
+	install -T -m 644 $(ARCHIVE) $(LIB)/libkhonvertseg.a
+	install -T -m 644 $(SHARED) $(LIB)/libkhonvertseg.so.$(VERSION)
+	ln -sfT libkhonvertseg.so.$(VERSION) $(LIB)/libkhonvertseg.so.$(MAJOR)
+	ln -sfT libkhonvertseg.so.$(MAJOR) $(LIB)/libkhonvertseg.so
 	$(call fill,tools/khonvertseg.pc.in,$(LIB)/pkgconfig/khonvertseg.pc,644)
 	$(call fill,man/khon-cut.1,$(MAN)/man1/khon-cut.1,644)
 	$(call fill,man/khonvertseg.3,$(MAN)/man3/khonvertseg.3,644)
 
-uninstall: folders ## removes the files that install put there; the folders stay
+uninstall: folders ## removes the files that install put there, no folder and no newer library
 	rm -f $(BIN)/guillotine $(BIN)/khon-block $(BIN)/khon-cut $(INCLUDE)/khonvertseg.h $(LIB)/libkhonvertseg.a
-	rm -f $(LIB)/libkhonvertseg.so.$(VERSION) $(LIB)/libkhonvertseg.so.$(MAJOR) $(LIB)/libkhonvertseg.so
+	[ "$$(readlink $(LIB)/libkhonvertseg.so.$(MAJOR))" != libkhonvertseg.so.$(VERSION) ] || \
+	    rm -f $(LIB)/libkhonvertseg.so.$(MAJOR) $(LIB)/libkhonvertseg.so
+	rm -f $(LIB)/libkhonvertseg.so.$(VERSION)
 	rm -f $(LIB)/pkgconfig/khonvertseg.pc $(MAN)/man1/khon-cut.1 $(MAN)/man3/khonvertseg.3
 
 clean: ## removes target/, all that was built

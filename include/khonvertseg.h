@@ -1,10 +1,11 @@
 /*
  * Khonvertseg: the best guillotine cutting of one sheet into valued pieces.
  *
- * Link with libkhonvertseg.a or libkhonvertseg.so (x86-64). Everything here
- * works on what the caller lends: the library allocates nothing, keeps nothing
- * between two calls and has no global state, so calls on different rows may
- * run at the same time in different threads.
+ * For C99 or later, and for C++. Link with libkhonvertseg.a or
+ * libkhonvertseg.so (x86-64). Everything here works on what the caller lends:
+ * the library allocates nothing, keeps nothing between two calls and has no
+ * global state, so calls on different rows may run at the same time in
+ * different threads.
  *
  * THE JOB. One sheet, width by height in whole units, and up to 64 kinds of
  * piece with the numbers 1, 2 and so on; of each kind any number may be cut,
@@ -56,8 +57,9 @@
 extern "C" {
 #endif
 
-/* The first number is raised when a struct, a call or a refusal number changes
-   for callers, the second when something is added, the third for all else. */
+/* The first number is raised when callers have to look at their code (a struct
+   or a call changed, or a call gives another refusal), the second when
+   something is added that they need not know, the third for all else. */
 #define KHON_VERSION "1.1.0"
 
 /* Limits. Every number below is at least 1, except the count of pieces. */

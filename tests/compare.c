@@ -46,7 +46,8 @@ typedef enum { OPEN, ADD, CORRECT, REMOVE, ASK, PLAN, CHECK, KINDS } kind;
 
 static const char *const kind_names[KINDS] = {"open", "add",  "correct", "remove",
                                               "ask",  "plan", "check"};
-static unsigned long met[KINDS][14];
+enum { NUMBERS = 32 }; /* more than any refusal number; the last entry is for all above */
+static unsigned long met[KINDS][NUMBERS];
 static unsigned long calls, calls_of[KINDS];
 static unsigned long kept_questions, kept_plans, notes_accepted, full_files, from_elsewhere;
 
@@ -151,8 +152,7 @@ static void same_row(const lent *row, const char *what) {
 static void account(kind which, uint32_t refusal) {
     calls++;
     calls_of[which]++;
-    if (refusal < 14)
-        met[which][refusal]++;
+    met[which][refusal < NUMBERS ? refusal : NUMBERS - 1]++;
 }
 
 static lent lend_cells(size_t cells_len) {
@@ -969,13 +969,15 @@ static void report_met(void) {
     for (int which = 0; which < KINDS; which++) {
         int all = 1;
         printf("       %-8s", kind_names[which]);
-        for (int number = 0; number < 14; number++)
+        for (int number = 0; number < NUMBERS; number++)
             if (possible[which] >> number & 1) {
                 printf(" %d: %lu ", number, met[which][number]);
                 all = all && met[which][number] >= 10;
+            } else {
+                all = all && met[which][number] == 0;
             }
         printf("\n");
-        report(all, "%s: each answer it can give was met ten times or more", kind_names[which]);
+        report(all, "%s: each answer it can give was met ten times or more, and no other", kind_names[which]);
     }
     for (int rule = 0; rule <= 6; rule++)
         report(ref_rule_struck[rule] >= 10, "tree: %s%d struck %lu times",

@@ -11,30 +11,33 @@ import os
 import sys
 from ctypes import CDLL, POINTER, Structure, c_char_p, c_size_t, c_uint8, c_uint16, c_uint32
 
-# khon_refusal_text's words, from number 0 on (the header has them for C alone).
-REFUSAL_TEXTS = (
-    "accepted",
-    "the job is out of range, or its block has the wrong length",
-    "the table has fewer cells than width times height",
-    "no piece has this number, or the rectangle isn't inside the sheet",
-    "the new piece is out of range",
-    "the job has as many pieces as it can have",
-    "a cell under the rectangle is empty: ask first",
-    "some cell of the table is wrong: these calls didn't keep it",
-    "the plan file is longer than the buffer",
-    "not a plan file: its length or its way back to the block is out of range",
-    "the plan file's running sum differs",
-    "the plan file's block is out of range, or its trailer disagrees with it",
-    "the plan file's nodes break a rule",
-    "the plan file's value isn't the sum of the pieces cut",
-)
+# khon_refusal_text's words (the header has them for C alone).
+REFUSAL_TEXTS = {
+    0: "accepted",
+    1: "the job is out of range, or its block has the wrong length",
+    2: "the table has fewer cells than width times height",
+    3: "no piece has this number, or the rectangle isn't inside the sheet",
+    4: "the new piece is out of range",
+    5: "the job has as many pieces as it can have",
+    6: "a cell under the rectangle is empty: ask first",
+    7: "some cell of the table is wrong: these calls didn't keep it",
+    8: "the plan file is longer than the buffer",
+    9: "not a plan file: its length or its way back to the block is out of range",
+    10: "the plan file's running sum differs",
+    11: "the plan file's block is out of range, or its trailer disagrees with it",
+    12: "the plan file's nodes break a rule",
+    13: "the plan file's value isn't the sum of the pieces cut",
+}
 SIDE_MAX = 240
 
 class Refused(Exception):
     def __init__(self, call, number):
+        super().__init__(call, number)
         self.number = number
-        self.text = dict(enumerate(REFUSAL_TEXTS)).get(number, "unknown refusal number")
-        super().__init__(f"{call}: refused {number}, {self.text}")
+        self.text = REFUSAL_TEXTS.get(number, "unknown refusal number")
+
+    def __str__(self):
+        return f"{self.args[0]}: refused {self.number}, {self.text}"
 
 def struct(name, **fields):
     """A C struct. Its layout follows from the fields: order and types must be the header's."""

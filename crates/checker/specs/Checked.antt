@@ -16,6 +16,7 @@ pub record Answer : Type 0 where
   pub pieceArea : ℕ
   pub scrapArea : ℕ
 
+-- An accepted file has number 0, a refused one zeros (rule 4.15).
 abbrev pub answer : Checked → Answer
 answer (Checked.Accepted value note pieces scrap) = record { number = 0; value = value; note = note; pieceArea = pieces; scrapArea = scrap }
 answer (Checked.Refused number) = record { number = number; value = 0; note = 0; pieceArea = 0; scrapArea = 0 }

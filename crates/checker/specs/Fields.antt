@@ -7,6 +7,7 @@ use Rattle.fields.specs.Number.{number2Of, number4Of}
 use Rattle.job.specs.declared.Job.{Job}
 use Rattle.job.specs.Block.{jobIn}
 
+-- Where the trailer begins: 16 bytes before the end.
 abbrev pub trailerAt : List ℕ → ℕ
 trailerAt file = length file - trailerLength
 
@@ -22,9 +23,11 @@ blockDistance file = fieldAt file blockField
 abbrev pub nodesDistance : List ℕ → ℕ
 nodesDistance file = fieldAt file nodesField
 
+-- The value that the trailer states.
 abbrev pub statedValue : List ℕ → ℕ
 statedValue file = fieldAt file valueField
 
+-- The sum that it states.
 abbrev pub statedSum : List ℕ → ℕ
 statedSum file = fieldAt file sumField
 
@@ -32,6 +35,7 @@ statedSum file = fieldAt file sumField
 abbrev pub noteLength : List ℕ → ℕ
 noteLength file = trailerAt file - blockDistance file
 
+-- Where the first node stands.
 abbrev pub nodesAt : List ℕ → ℕ
 nodesAt file = trailerAt file - nodesDistance file
 
@@ -51,5 +55,6 @@ beforeTrailer file = take (trailerAt file) file
 unfoldable pub jobAt : List ℕ → Job
 jobAt file = jobIn (blockBytes file)
 
+-- The n of the block's head.
 unfoldable pub countAt : List ℕ → ℕ
 countAt file = number2Of file (noteLength file + thirdNumber)

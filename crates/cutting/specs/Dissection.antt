@@ -13,10 +13,11 @@ rest x c = x - c
 abbrev pub crossed : Bool → ℕ → ℕ → ℕ
 crossed tall x y = cond tall y x
 
--- .. and the width and the height of a part of it that is c long: the other side stays.
+-- .. the width of a part of it that is c long ..
 abbrev pub partWidth : Bool → ℕ → ℕ → ℕ
 partWidth tall x c = cond tall x c
 
+-- .. and the height: the side that isn't crossed stays.
 abbrev pub partHeight : Bool → ℕ → ℕ → ℕ
 partHeight tall y c = cond tall c y
 

@@ -5,6 +5,7 @@ use mathlib.Core.List.{List}
 use lib.ListN.{length, getD}
 use Rattle.cutting.specs.Limits.{sizeMax, valueMax}
 
+-- A piece: its sides and its value (rules 1.4 and 1.5).
 pub record Piece : Type 0 where
   pub width : ℕ
   pub height : ℕ
@@ -40,6 +41,7 @@ pub record Lies (pieces : List Piece) (p q v : ℕ) : Type 0 where
   pub number : ℕ
   pub numbered : Numbered pieces number p q v
 
+-- What may lie when these are the pieces.
 abbrev pub Lays : List Piece → Lay
 Lays pieces = record { lies = Lies pieces }
 
@@ -56,6 +58,7 @@ pub record PieceInRange (p q v : ℕ) : Type 0 where
   pub valueLeast : 1 ≤ v
   pub valueMost : v ≤ valueMax
 
+-- Whatever may lie is in its range.
 abbrev pub InRange : Lay → Type 0
 InRange lay = (p q v : ℕ) → lay .lies p q v → PieceInRange p q v
 

@@ -20,6 +20,7 @@ use Rattle.khonvertseg.specs.declared.KhonPlanned.{KhonPlanned}
 use Rattle.khonvertseg.specs.declared.KhonChecked.{KhonChecked}
 use Rattle.khonvertseg.specs.Calls.{KhonOpens, KhonAdds, KhonCorrects, KhonRemoves, KhonAsks, KhonPlans, KhonChecks}
 
+-- A call of a script.
 pub data ScriptStep : Type 0 where
   add : Piece → ScriptStep
   correct : ℕ → Piece → ScriptStep
@@ -37,6 +38,7 @@ pub record Said : Type 0 where
   pub empties : ℕ
   pub file : List ℕ
 
+-- What is said of a call that writes no file.
 abbrev pub said : ℕ → ℕ → ℕ → ℕ → Said
 said refusal value worked empties = record { refusal = refusal; value = value; worked = worked; empties = empties; file = [] }
 
@@ -44,6 +46,7 @@ said refusal value worked empties = record { refusal = refusal; value = value; w
 abbrev pub wrote : ℕ → List ℕ → Said
 wrote value file = record { refusal = 0; value = value; worked = 0; empties = 0; file = file }
 
+-- The empty cells of the sheet.
 abbrev pub emptyCells : Job → List ℕ → ℕ
 emptyCells job t = countInBox (job .width) (job .height) (isEmpty (job .width) t)
 
@@ -51,12 +54,15 @@ emptyCells job t = countInBox (job .width) (job .height) (isEmpty (job .width) t
 abbrev pub saidOfChange : KhonChanged → List ℕ → Said
 saidOfChange r t = said (r .refusal) 0 0 (emptyCells (r .job) t)
 
+-- Of an answer to a question.
 abbrev pub saidOfAnswer : Job → KhonAsked → List ℕ → Said
 saidOfAnswer job r t = said (r .refusal) (r .value) (r .worked) (emptyCells job t)
 
+-- Of a plan.
 abbrev pub saidOfPlan : Job → List ℕ → KhonPlanned → List ℕ → Said
 saidOfPlan job t r o = record { refusal = r .refusal; value = r .value; worked = 0; empties = emptyCells job t; file = take (r .length) o }
 
+-- Of a check.
 abbrev pub saidOfCheck : Job → List ℕ → KhonChecked → Said
 saidOfCheck job t r = said (r .refusal) (r .value) 0 (emptyCells job t)
 
@@ -99,9 +105,11 @@ sheetFile a b pieces tree = fileOf (jobOf a b pieces) a b tree
 abbrev pub k1Asked : List ScriptStep
 k1Asked = ScriptStep.add (sized 1 2 2) ∷ ScriptStep.add (sized 2 3 6) ∷ ScriptStep.ask 3 3 ∷ []
 
+-- What is said of K1's calls.
 abbrev pub k1Said : List Said
 k1Said = said 0 0 0 9 ∷ said 0 0 0 9 ∷ said 0 8 9 0 ∷ []
 
+-- The sheet K1.
 abbrev pub K1 : Sheet
 K1 =
     sheet 3 3
@@ -173,6 +181,7 @@ K8 =
     (said 0 0 0 6 ∷ said 0 6 6 0 ∷ wrote 6 (sheetFile 2 3 (sized 2 3 6 ∷ []) (Tree.pieceP 1)) ∷ [])
     2 3 6
 
+-- All of them.
 abbrev pub sheets : List Sheet
 sheets = K1 ∷ K2 ∷ K3 ∷ K4K9K10 ∷ K5 ∷ K6 ∷ K7 ∷ K8 ∷ []
 

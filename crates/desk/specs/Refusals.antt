@@ -12,28 +12,35 @@ use Rattle.job.specs.declared.Piece.{Piece as Record}
 use Rattle.job.specs.declared.Job.{Job}
 use Rattle.job.specs.Range.{JobInRange}
 
--- The numbers by name, those of plan too.
+-- The numbers by name, those of plan too. Rule 7.1: a job out of its range.
 abbrev pub badJob : ℕ
 badJob = 1
 
+-- Rule 7.2: too few cells.
 abbrev pub shortTable : ℕ
 shortTable = 2
 
+-- Rule 7.3: no such piece, or a rectangle that isn't inside the sheet.
 abbrev pub notInside : ℕ
 notInside = 3
 
+-- Rule 7.4: a new piece out of its range.
 abbrev pub badPiece : ℕ
 badPiece = 4
 
+-- Rule 7.5: 64 pieces already.
 abbrev pub fullJob : ℕ
 fullJob = 5
 
+-- Rule 7.6: an empty cell.
 abbrev pub notAsked : ℕ
 notAsked = 6
 
+-- Rule 7.7: numbers that these calls never leave.
 abbrev pub alienTable : ℕ
 alienTable = 7
 
+-- Rule 7.8: too short a buffer.
 abbrev pub shortBuffer : ℕ
 shortBuffer = 8
 
@@ -93,18 +100,22 @@ askRefusals job t x y =
     ∷ unless alienTable (Bounded (cellOf (job .width) t) x y)
     ∷ []
 
--- The number of each call.
+-- The number of each call: of open.
 abbrev pub OpenRefusal : ℕ → ℕ → List ℕ → ℕ → Type 0
 OpenRefusal a b t = Gives (openRefusals a b t)
 
+-- Of add.
 abbrev pub AddRefusal : Job → List ℕ → Record → ℕ → Type 0
 AddRefusal job t piece = Gives (addRefusals job t piece)
 
+-- Of correct.
 abbrev pub CorrectRefusal : Job → List ℕ → ℕ → Record → ℕ → Type 0
 CorrectRefusal job t k piece = Gives (correctRefusals job t k piece)
 
+-- Of remove.
 abbrev pub RemoveRefusal : Job → List ℕ → ℕ → ℕ → Type 0
 RemoveRefusal job t k = Gives (removeRefusals job t k)
 
+-- Of ask.
 abbrev pub AskRefusal : Job → List ℕ → ℕ → ℕ → ℕ → Type 0
 AskRefusal job t x y = Gives (askRefusals job t x y)

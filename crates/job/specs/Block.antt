@@ -19,10 +19,12 @@ blockLength n = headBytes + n * pieceBytes
 unfoldable pub bytesOfPiece : Piece → List ℕ
 bytesOfPiece p = bytes2 (p .width) ++ (bytes2 (p .height) ++ bytes2 (p .value))
 
+-- The records of all pieces, one after the other.
 unfoldable pub bytesOfPieces : List Piece → List ℕ
 bytesOfPieces [] = []
 bytesOfPieces (p ∷ pieces) = bytesOfPiece p ++ bytesOfPieces pieces
 
+-- The head: width, height and n.
 unfoldable pub bytesOfHead : ℕ → ℕ → ℕ → List ℕ
 bytesOfHead width height n = bytes2 width ++ (bytes2 height ++ bytes2 n)
 
@@ -30,6 +32,7 @@ bytesOfHead width height n = bytes2 width ++ (bytes2 height ++ bytes2 n)
 unfoldable pub block : ℕ → ℕ → List Piece → List ℕ
 block width height pieces = bytesOfHead width height (length pieces) ++ bytesOfPieces pieces
 
+-- The block of a job.
 abbrev pub blockOf : Job → List ℕ
 blockOf job = block (job .width) (job .height) (piecesOf job)
 
@@ -41,9 +44,11 @@ countIn s = number2Of s thirdNumber
 unfoldable pub pieceFrom : List ℕ → ℕ → Piece
 pieceFrom s at = record { width = number2Of s at; height = number2Of s (at + secondNumber); value = number2Of s (at + thirdNumber) }
 
+-- Piece k + 1 of a block.
 abbrev pub pieceIn : List ℕ → ℕ → Piece
 pieceIn s k = pieceFrom s (blockLength k)
 
+-- The job that a block says.
 unfoldable pub jobIn : List ℕ → Job
 jobIn s = jobOf (number2Of s 0) (number2Of s secondNumber) (byIndex (pieceIn s) (countIn s))
 

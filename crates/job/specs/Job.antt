@@ -13,6 +13,7 @@ use Rattle.job.specs.declared.Job.{Job}
 abbrev pub pieceOf : Record → Piece
 pieceOf r = record { width = r .width; height = r .height; value = r .value }
 
+-- The record of a piece.
 abbrev pub recordOf : Piece → Record
 recordOf p = record { width = p .width; height = p .height; value = p .value }
 

@@ -27,5 +27,6 @@ flatPlanned a = record { refusal = plannedNumbers a .refusal; length = plannedNu
 abbrev pub laidOut : Answer → KhonChecked
 laidOut a = record { refusal = a .number; value = a .value; note = a .note; «piece_area» = a .pieceArea; «scrap_area» = a .scrapArea }
 
+-- The answer of check, laid out.
 abbrev pub flatChecked : Checked → KhonChecked
 flatChecked a = laidOut (answer a)

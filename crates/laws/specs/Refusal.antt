@@ -9,6 +9,7 @@ pub data Row : Type 1 where
   unless : ℕ → Type 0 → Row
   when : ℕ → Type 0 → Row
 
+-- Its number.
 abbrev pub numberOf : Row → ℕ
 numberOf (Row.unless k fact) = k
 numberOf (Row.when k fact) = k

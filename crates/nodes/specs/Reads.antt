@@ -13,6 +13,7 @@ pub record Frame : Type 0 where
   pub width : ℕ
   pub height : ℕ
 
+-- The part of x by y whose nodes start at a place.
 abbrev pub frame : ℕ → ℕ → ℕ → Frame
 frame at x y = record { at = at; width = x; height = y }
 

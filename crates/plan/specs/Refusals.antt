@@ -40,5 +40,6 @@ planRefusals job t x y room =
     ∷ unless shortBuffer (HasRoom job t x y room)
     ∷ []
 
+-- The number of plan.
 abbrev pub PlanRefusal : Job → List ℕ → ℕ → ℕ → ℕ → ℕ → Type 0
 PlanRefusal job t x y room = Gives (planRefusals job t x y room)

@@ -9,11 +9,12 @@ use Rattle.cutting.specs.Points.{P}
 use Rattle.cutting.specs.Candidate.{Tried}
 use Rattle.cutting.specs.Tree.{Tree}
 
--- The first piece, the least line: k is in the set, and nothing before it is. None: nothing is in the set (rules 6.2 to 6.5).
+-- The first piece, the least line (rules 6.2 to 6.5): k is in the set, and nothing before it is.
 pub record Least (S : ℕ → Type 0) (k : ℕ) : Type 0 where
   pub holds : S k
   pub least : (j : ℕ) → j < k → S j → ⊥
 
+-- There is none: the next rule is looked at.
 abbrev pub None : (ℕ → Type 0) → Type 0
 None S = (k : ℕ) → S k → ⊥
 

@@ -16,7 +16,7 @@ PROGRAM := target/bin/guillotine
 # Folders too: they are newer when a file of theirs is gone. What begins with a dot is an editor's.
 SOURCES := crates.txt $(shell find crates -name must-fail -prune -o ! -name '.*' ! -name '* *' -print)
 
-all: archive shared program ## archive, shared library and program (when no target is named)
+all: program archive shared ## archive, shared library and program (when no target is named)
 
 help: ## this list
 	@awk -F ':.*## ' '/^[a-z]+:.*## / { printf "make %-10s %s\n", $$1, $$2 }' Makefile

@@ -7,7 +7,7 @@
 PREFIX ?= /usr/local
 LIBDIR ?= $(PREFIX)/lib
 MANDIR ?= $(PREFIX)/share/man
-VERSION := $(shell sed -n 's/^.define KHON_VERSION "\([^"]*\)".*/\1/p' include/khonvertseg.h)
+VERSION := $(shell tools/version)
 MAJOR := $(firstword $(subst ., ,$(VERSION)))
 
 ARCHIVE := target/staticlib/libkhonvertseg.a

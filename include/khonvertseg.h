@@ -174,7 +174,7 @@ typedef struct {
    pieces[count] on aren't read. */
 typedef struct {
     uint16_t width, height, count;
-    khon_piece pieces[64];
+    khon_piece pieces[KHON_PIECES_MAX];
 } khon_job;
 
 /* The answer of a call that makes or changes a job. Accepted, its records from

@@ -32,7 +32,7 @@ pub const HEIGHTS: usize = WIDTHS + ENTRIES;
 pub const VALUES: usize = HEIGHTS + ENTRIES;
 
 // One mark for each number that a side can be, and one for zero, which is never set. A mark is 1, no mark 0.
-pub const MARKS: usize = 241;
+pub const MARKS: usize = Job::SIDE_MAX as usize + 1;
 
 pub const ACROSS: usize = VALUES + ENTRIES;
 

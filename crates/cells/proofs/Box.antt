@@ -146,13 +146,14 @@ unfolding countInBox
 countInBox-more x j test =
     sumBelow-more (λ k. countInRow x (suc k) test) j ∙ ap (λ w. sumBelow (λ k. countInRow x (suc k) test) j + countInRow x w test) (sym (add-one j))
 
--- Nothing is counted in a box where the test is true of nothing.
-pub countInBox-zero : (x y : ℕ) (test : ℕ → ℕ → Bool) → ((u w : ℕ) → Inside u w x y → test u w ≡ false) → countInBox x y test ≡ 0
+-- A test that is the same in every cell of a box counts all of its cells, or none.
+countInBox-each : (x y : ℕ) (test : ℕ → ℕ → Bool) (b : Bool) → ((u w : ℕ) → Inside u w x y → test u w ≡ b) → countInBox x y test ≡ y * (x * counted b)
 unfolding countInBox countInRow
-countInBox-zero x y test none = sumBelow-zero _ y (λ j h. sumBelow-zero _ x (λ i k. ap counted (none (suc i) (suc j) (omega arith))))
+countInBox-each x y test b same =
+    sumBelow-each _ y (x * counted b) (λ j h. sumBelow-each _ x (counted b) (λ i k. ap counted (same (suc i) (suc j) (omega arith))))
 
--- All cells of a box.
+pub countInBox-zero : (x y : ℕ) (test : ℕ → ℕ → Bool) → ((u w : ℕ) → Inside u w x y → test u w ≡ false) → countInBox x y test ≡ 0
+countInBox-zero x y test none = omega (arith, countInBox-each x y test false none)
+
 pub countInBox-all : (x y : ℕ) (test : ℕ → ℕ → Bool) → ((u w : ℕ) → Inside u w x y → test u w ≡ true) → countInBox x y test ≡ x * y
-unfolding countInBox countInRow
-countInBox-all x y test all =
-    sumBelow-each _ y x (λ j h. sumBelow-each _ x 1 (λ i k. ap counted (all (suc i) (suc j) (omega arith))) ∙ omega arith) ∙ mul-comm y x
+countInBox-all x y test all = omega (arith, countInBox-each x y test true all, mul-comm x y)

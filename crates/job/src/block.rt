@@ -12,6 +12,7 @@ ghost use Rattle.job.specs.Inner.{blockShape, fromBlock};
 use crate::Blocked;
 use crate::Job;
 use crate::Piece;
+use crate::Records;
 use fields::cast::wide;
 use fields::format::HEAD_BYTES;
 use fields::format::PIECE_BYTES;
@@ -62,12 +63,12 @@ fn piece_from(s: &[u8], at: usize) -> Piece
 }
 
 // The records of count pieces, and zeros after.
-fn records_in(s: &[u8], count: usize) -> [Piece; 64]
+fn records_in(s: &[u8], count: usize) -> Records
     requires { ⌜ count ≤ piecesMax ⌝ }
     requires { ⌜ blockLength count ≤ length (now s) ⌝ }
     ensures { λ r. ⌜ r ≡ filledRow (λ k. recordOf (pieceIn (now (s .entry)) k)) noRecord count piecesMax ⌝ }
 {
-    let mut records = [Piece::zeros(); 64];
+    let mut records = [Piece::zeros(); Job::PIECES_MAX as usize];
     for k in 0..count {
         records[k] = piece_from(s, block_length(k));
     }

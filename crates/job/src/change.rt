@@ -9,6 +9,7 @@ ghost use Rattle.job.specs.Change.{withAdded, withCorrected, withRemoved
 ghost use Rattle.job.specs.Inner.{movedFrom};
 use crate::Job;
 use crate::Piece;
+use crate::Records;
 
 // Where what stands at index k comes from, once the record at index gap is left out.
 fn moved_from(gap: usize, k: usize) -> usize
@@ -22,12 +23,12 @@ fn moved_from(gap: usize, k: usize) -> usize
 }
 
 // The first records, the one at index gap left out, so that there are count, and zeros after.
-fn kept(records: [Piece; 64], gap: usize, count: usize) -> [Piece; 64]
+fn kept(records: Records, gap: usize, count: usize) -> Records
     requires { ⌜ count ≤ piecesMax ⌝ }
     requires { ⌜ ((k : ℕ) → k < count → movedFrom gap k < piecesMax) ⌝ }
     ensures { λ r. ⌜ r ≡ filledRow (λ k. getD records (movedFrom gap k) noRecord) noRecord count piecesMax ⌝ }
 {
-    let mut kept = [Piece::zeros(); 64];
+    let mut kept = [Piece::zeros(); Job::PIECES_MAX as usize];
     for k in 0..count {
         let from = moved_from(gap, k);
         kept[k] = records[from];

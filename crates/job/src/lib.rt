@@ -17,12 +17,15 @@ pub struct Piece {
     pub value: u16,
 }
 
+// The records of a job: as many as it may have pieces.
+pub type Records = [Piece; Job::PIECES_MAX as usize];
+
 #[repr(C)]
 pub struct Job {
     pub width: u16,
     pub height: u16,
     pub count: u16,
-    pub pieces: [Piece; 64],
+    pub pieces: Records,
 }
 
 // What a job block says: where ok is false, it is none, and the job is one of zeros.
@@ -79,7 +82,7 @@ impl Job {
     pub fn new(width: u16, height: u16) -> Job
         ensures { λ r. ⌜ r ≡ jobOf width height [] ⌝ }
     {
-        let pieces = [Piece::zeros(); 64];
+        let pieces = [Piece::zeros(); Job::PIECES_MAX as usize];
         Job {
             width: width,
             height: height,

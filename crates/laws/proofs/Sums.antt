@@ -20,13 +20,11 @@ sumBelow-part f zero k h = absurd (omega arith)
 sumBelow-part f (suc n) k h =
     ⊎-elim (λ e. omega (arith, ap f e)) (λ l. omega (arith, sumBelow-part f n k l)) (last-or-below h)
 
-pub sumBelow-zero : (f : ℕ → ℕ) (n : ℕ) → ((k : ℕ) → k < n → f k ≡ 0) → sumBelow f n ≡ 0
-unfolding sumBelow
-sumBelow-zero f zero h = refl
-sumBelow-zero f (suc n) h = omega (arith, sumBelow-zero f n (λ k l. h k (omega arith)), h n (omega arith))
-
 -- A sum of equal numbers.
 pub sumBelow-each : (f : ℕ → ℕ) (n m : ℕ) → ((k : ℕ) → k < n → f k ≡ m) → sumBelow f n ≡ n * m
 unfolding sumBelow
 sumBelow-each f zero m h = omega arith
 sumBelow-each f (suc n) m h = omega (arith, suc-mul n m, h n (omega arith), sumBelow-each f n m (λ k l. h k (omega arith)))
+
+pub sumBelow-zero : (f : ℕ → ℕ) (n : ℕ) → ((k : ℕ) → k < n → f k ≡ 0) → sumBelow f n ≡ 0
+sumBelow-zero f n h = omega (arith, sumBelow-each f n 0 h)

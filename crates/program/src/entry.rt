@@ -8,6 +8,7 @@ use desk::change;
 use fields::cast::long;
 use job::Job;
 use job::Piece;
+use job::Records;
 
 // Adds a piece, unless something was refused before.
 fn add_next(before: Changed, cells: &mut [u32], piece: Piece) -> Changed
@@ -22,7 +23,7 @@ fn add_next(before: Changed, cells: &mut [u32], piece: Piece) -> Changed
 }
 
 // Adds the first pieces of a row one by one.
-fn add_all(start: Changed, pieces: [Piece; 64], count: usize, cells: &mut [u32]) -> Changed
+fn add_all(start: Changed, pieces: Records, count: usize, cells: &mut [u32]) -> Changed
     requires { ⌜ count ≤ piecesMax ⌝ }
     ensures { λ r. ⌜ r ≡ addedAll start (now (cells .entry)) pieces count .answer ⌝ }
     ensures { λ _. ⌜ now (cells .exit) ≡ addedAll start (now (cells .entry)) pieces count .cells ⌝ }

@@ -1,22 +1,22 @@
 /*
- * The cases to measure, for the library, for C by hand and for the dull scheme.
+ * The cases to measure, for the library, for C by hand, with the points marked
+ * or in Herz's list, and for the dull scheme.
  *
- *   bench agree                   all three give the same answers
+ *   bench agree                   all give the same answers
  *   bench count CASE ENGINE WORK  prepares the case; if WORK is 1, one call
  *   bench times                   the least of several runs, in microseconds
- *   bench stack                   the deepest stack of each call, in bytes
+ *   bench stack                   the deepest stack of each call, in bytes, for
+ *                                 the library and both kinds of C by hand
  *   bench cases                   their names
  *
  * bench/run counts the instructions of "count .. 1" less those of "count .. 0".
  */
-#define _DEFAULT_SOURCE
 #include <stdio.h>
 #include <stdlib.h>
 #include <string.h>
-#include <time.h>
-#include <ucontext.h>
 
 #include "hand.h"
+#include "measure.h"
 
 enum { SIDE = KHON_SIDE_MAX, CELLS = SIDE * SIDE, RUNS = 7 };
 
@@ -29,16 +29,23 @@ static khon_job job;
 
 typedef struct {
     const char *name;
+    khon_changed (*open)(uint32_t, uint32_t, uint32_t *, size_t);
+    khon_changed (*add)(khon_job, uint32_t *, size_t, khon_piece);
+    khon_changed (*correct)(khon_job, uint32_t *, size_t, uint32_t, khon_piece);
+    khon_changed (*remove)(khon_job, uint32_t *, size_t, uint32_t);
     khon_asked (*ask)(const uint8_t *, size_t, uint32_t *, size_t, uint32_t, uint32_t);
     khon_planned (*plan)(const uint8_t *, size_t, const uint32_t *, size_t, uint32_t, uint32_t,
                          uint8_t *, size_t);
     khon_checked (*check)(const uint8_t *, size_t);
 } engine;
 
-static const engine engines[] = {{"library", khon_ask, khon_plan, khon_check},
-                                 {"hand", hand_ask, hand_plan, hand_check},
-                                 {"dull", dull_ask, NULL, NULL}};
-enum { ENGINES = sizeof engines / sizeof *engines };
+/* Only ask and plan find points; the dull scheme has ask alone. */
+static const engine engines[] = {
+    {"library", khon_open, khon_add, khon_correct, khon_remove, khon_ask, khon_plan, khon_check},
+    {"hand", hand_open, hand_add, hand_correct, hand_remove, hand_ask, hand_plan, hand_check},
+    {"herz", NULL, NULL, NULL, NULL, herz_ask, herz_plan, NULL},
+    {"dull", NULL, NULL, NULL, NULL, dull_ask, NULL, NULL}};
+enum { LIBRARY, HAND, ENGINES = sizeof engines / sizeof *engines };
 
 /* ---- cases ---- */
 
@@ -49,24 +56,26 @@ static void must(uint32_t refusal) {
     }
 }
 
-static void open_sheet(uint32_t a, uint32_t b) {
-    khon_changed changed = khon_open(a, b, cells, CELLS);
+/* The job of an accepted change. */
+static void take(khon_changed changed) {
     must(changed.refusal);
     job = changed.job;
+}
+
+static khon_piece piece(uint32_t p, uint32_t q, uint32_t v) {
+    return (khon_piece){(uint16_t)p, (uint16_t)q, (uint16_t)v};
+}
+
+static void open_sheet(uint32_t a, uint32_t b) {
+    take(hand_open(a, b, cells, CELLS));
 }
 
 static void add(uint32_t p, uint32_t q, uint32_t v) {
-    khon_changed changed =
-        khon_add(job, cells, CELLS, (khon_piece){(uint16_t)p, (uint16_t)q, (uint16_t)v});
-    must(changed.refusal);
-    job = changed.job;
+    take(hand_add(job, cells, CELLS, piece(p, q, v)));
 }
 
 static void correct(uint32_t k, uint32_t p, uint32_t q, uint32_t v) {
-    khon_changed changed =
-        khon_correct(job, cells, CELLS, k, (khon_piece){(uint16_t)p, (uint16_t)q, (uint16_t)v});
-    must(changed.refusal);
-    job = changed.job;
+    take(hand_correct(job, cells, CELLS, k, piece(p, q, v)));
 }
 
 static khon_asked ask_with(const engine *e) {
@@ -107,7 +116,7 @@ static void prepare_sparse(void) {
 static void prepare_corrected(uint32_t p, uint32_t q) {
     prepare_dense();
     correct(7, p, q, p * q / 2 + 1);
-    must(ask_with(&engines[1]).refusal);
+    must(ask_with(&engines[HAND]).refusal);
     correct(7, p, q, p * q / 2 + 2);
 }
 
@@ -119,20 +128,48 @@ static void prepare_corrected_small(void) {
     prepare_corrected(15, 12);
 }
 
-static void prepare_plan(void) {
+static void prepare_again(void) {
+    prepare_dense();
+    must(ask_with(&engines[HAND]).refusal);
+}
+
+/* Every square a piece of its own, 479 levels; the other pieces earn less. */
+static void open_squares(uint32_t pieces) {
     open_sheet(SIDE, SIDE);
     add(1, 1, KHON_VALUE_MAX);
-    must(ask_with(&engines[1]).refusal);
+    for (uint32_t i = 1; i < pieces; i++)
+        add(1 + i, 1 + 3 * i % 64, 7);
+}
+
+static void prepare_63(void) {
+    open_squares(KHON_PIECES_MAX - 1);
+}
+
+static void prepare_64(void) {
+    open_squares(KHON_PIECES_MAX);
+}
+
+static void prepare_plan_of(uint32_t pieces) {
+    open_squares(pieces);
+    must(ask_with(&engines[HAND]).refusal);
+}
+
+static void prepare_plan(void) {
+    prepare_plan_of(1);
+}
+
+static void prepare_plan_64(void) {
+    prepare_plan_of(KHON_PIECES_MAX);
 }
 
 static void prepare_check(void) {
     prepare_plan();
-    khon_planned planned = plan_with(&engines[1]);
+    khon_planned planned = plan_with(&engines[HAND]);
     must(planned.refusal);
     file_len = planned.length;
 }
 
-typedef enum { ASK, PLAN, CHECK } call;
+typedef enum { ADD, CORRECT, REMOVE, ASK, PLAN, CHECK } call;
 
 static const struct {
     const char *name, *what;
@@ -144,10 +181,28 @@ static const struct {
     {"sparse", "ask 240 by 240, 3 large pieces, cold", prepare_sparse, ASK},
     {"corrected-large", "ask again, 200 by 180 corrected", prepare_corrected_large, ASK},
     {"corrected-small", "ask again, 15 by 12 corrected", prepare_corrected_small, ASK},
-    {"plan", "plan of 345,625 bytes", prepare_plan, PLAN},
-    {"check", "check of 345,625 bytes", prepare_check, CHECK},
+    {"again", "ask again, 240 by 240, 64 pieces, nothing changed", prepare_again, ASK},
+    {"plan-dense", "plan of 240 by 240, 64 pieces, 2,323 bytes", prepare_again, PLAN},
+    {"plan", "plan of 345,625 bytes, 1 piece", prepare_plan, PLAN},
+    {"plan-64", "plan of 346,003 bytes, 64 pieces", prepare_plan_64, PLAN},
+    {"check", "check of 345,625 bytes, 1 piece", prepare_check, CHECK},
+    {"add", "add 1 by 1 to 63 pieces, 240 by 240", prepare_63, ADD},
+    {"correct", "correct 1 by 1 of 64 pieces, 240 by 240", prepare_64, CORRECT},
+    {"remove", "remove 1 by 1 of 64 pieces, 240 by 240", prepare_64, REMOVE},
 };
 enum { CASES = sizeof cases / sizeof *cases };
+
+static int can(const engine *e, call which) {
+    return which == ASK || (which == PLAN && e->plan != NULL) || e->check != NULL;
+}
+
+static khon_changed change_with(const engine *e, call which) {
+    if (which == ADD)
+        return e->add(job, cells, CELLS, piece(1, 1, 1));
+    if (which == CORRECT)
+        return e->correct(job, cells, CELLS, 1, piece(1, 1, 1));
+    return e->remove(job, cells, CELLS, 1);
+}
 
 /* One call, and a number that depends on its whole answer. */
 static uint32_t work(const engine *e, call which) {
@@ -161,13 +216,14 @@ static uint32_t work(const engine *e, call which) {
         must(planned.refusal);
         return planned.value + planned.length;
     }
-    khon_checked checked = e->check(file, file_len);
-    must(checked.refusal);
-    return checked.value + checked.note + checked.piece_area + checked.scrap_area;
-}
-
-static int can(const engine *e, call which) {
-    return which == ASK || e->plan != NULL;
+    if (which == CHECK) {
+        khon_checked checked = e->check(file, file_len);
+        must(checked.refusal);
+        return checked.value + checked.note + checked.piece_area + checked.scrap_area;
+    }
+    khon_changed changed = change_with(e, which);
+    must(changed.refusal);
+    return changed.job.count + 100u * changed.job.pieces[0].width;
 }
 
 /* ---- the commands ---- */
@@ -215,12 +271,6 @@ static int find_engine(const char *name) {
     return -1;
 }
 
-static double microseconds(void) {
-    struct timespec now;
-    clock_gettime(CLOCK_MONOTONIC, &now);
-    return 1e6 * (double)now.tv_sec + 1e-3 * (double)now.tv_nsec;
-}
-
 static void times(void) {
     for (int i = 0; i < CASES; i++) {
         cases[i].prepare();
@@ -241,69 +291,42 @@ static void times(void) {
     }
 }
 
-/* ---- stack: each call on a painted stack of its own ---- */
+/* ---- stack ---- */
 
-static uint8_t stack[1 << 20];
-static ucontext_t here, there;
-static void (*to_run)(void);
+static const engine *measured;
 
-static void on_the_stack(void) {
-    to_run();
-}
-
-static size_t deepest(void (*run)(void)) {
-    size_t untouched = 0;
-    memset(stack, 0xA5, sizeof stack);
-    getcontext(&there);
-    there.uc_stack.ss_sp = stack;
-    there.uc_stack.ss_size = sizeof stack;
-    there.uc_link = &here;
-    to_run = run;
-    makecontext(&there, on_the_stack, 0);
-    swapcontext(&here, &there);
-    while (untouched < sizeof stack && stack[untouched] == 0xA5)
-        untouched++;
-    return sizeof stack - untouched;
-}
-
-static void run_nothing(void) {
-}
 static void run_open(void) {
-    (void)khon_open(SIDE, SIDE, cells, CELLS);
+    must(measured->open(SIDE, SIDE, cells, CELLS).refusal);
 }
 static void run_add(void) {
-    (void)khon_add(job, cells, CELLS, (khon_piece){1, 1, 1});
+    must(change_with(measured, ADD).refusal);
 }
 static void run_correct(void) {
-    (void)khon_correct(job, cells, CELLS, 1, (khon_piece){1, 1, 1});
+    must(change_with(measured, CORRECT).refusal);
 }
 static void run_remove(void) {
-    (void)khon_remove(job, cells, CELLS, 1);
+    must(change_with(measured, REMOVE).refusal);
 }
 static void run_ask(void) {
-    must(ask_with(&engines[0]).refusal);
+    must(ask_with(measured).refusal);
 }
 static void run_plan(void) {
-    must(plan_with(&engines[0]).refusal);
+    must(plan_with(measured).refusal);
 }
 static void run_check(void) {
-    must(khon_check(file, file_len).refusal);
-}
-static void run_hand_plan(void) {
-    must(plan_with(&engines[1]).refusal);
-}
-static void run_hand_check(void) {
-    must(hand_check(file, file_len).refusal);
+    must(measured->check(file, file_len).refusal);
 }
 
 /* A file of 479 levels, each line's first part the deeper one: lines at 239,
-   238 .. 1 in width, then so in height, and all leaves scrap. */
+   238 .. 1 in width, then so in height, and all leaves scrap. Its job is the
+   one at hand. */
 static void write_leaning_file(void) {
     uint8_t *at = file;
-    uint32_t lines = 2 * (SIDE - 1), start = 6 + 3 * (2 * lines + 1), sum = 1;
-    const uint32_t trailer[3] = {start, start - 6, 0};
-    memcpy(at, (const uint8_t[]){SIDE, 0, SIDE, 0, 0, 0}, 6);
-    at += 6;
+    uint32_t lines = 2 * (SIDE - 1), block = KHON_BLOCK_LENGTH(job.count), sum = 1;
+    uint32_t start = block + 3 * (2 * lines + 1);
+    const uint32_t trailer[3] = {start, start - block, 0};
+    memcpy(at, &job, block);
+    at += block;
     for (uint32_t i = 0; i <= 2 * lines; i++, at += 3) {
         at[0] = i >= lines ? 'S' : i < lines / 2 ? 'V' : 'H';
         at[1] = i >= lines ? 0 : (uint8_t)(SIDE - 1 - i % (lines / 2));
@@ -316,21 +339,31 @@ static void write_leaning_file(void) {
     file_len = start + 16;
 }
 
+/* Each call on 240 by 240 with 64 pieces (63 before an add), on its deepest plan. */
 static void stack_use(void) {
-    size_t frame = deepest(run_nothing);
-    printf("open %zu\n", deepest(run_open) - frame);
-    prepare_table_1();
-    printf("add %zu\n", deepest(run_add) - frame);
-    printf("correct %zu\n", deepest(run_correct) - frame);
-    printf("remove %zu\n", deepest(run_remove) - frame);
-    prepare_dense();
-    printf("ask %zu\n", deepest(run_ask) - frame);
-    prepare_plan(); /* 479 levels, here and below */
-    printf("plan %zu\n", deepest(run_plan) - frame);
-    printf("hand-plan %zu\n", deepest(run_hand_plan) - frame);
-    write_leaning_file();
-    printf("check %zu\n", deepest(run_check) - frame);
-    printf("hand-check %zu\n", deepest(run_hand_check) - frame);
+    static const struct {
+        const char *name;
+        void (*prepare)(void), (*run)(void);
+        call which;
+    } runs[] = {
+        {"open", prepare_63, run_open, CHECK},     {"add", prepare_63, run_add, ADD},
+        {"correct", prepare_64, run_correct, CORRECT}, {"remove", prepare_64, run_remove, REMOVE},
+        {"ask", prepare_64, run_ask, ASK},         {"ask again", prepare_plan_64, run_ask, ASK},
+        {"plan", prepare_plan_64, run_plan, PLAN}, {"check", prepare_64, run_check, CHECK},
+    };
+    for (size_t i = 0; i < sizeof runs / sizeof *runs; i++) {
+        printf("%s", runs[i].name);
+        for (measured = engines; measured < engines + 3; measured++) {
+            if (!can(measured, runs[i].which)) {
+                printf(" | -");
+                continue;
+            }
+            runs[i].prepare();
+            write_leaning_file();
+            printf(" | %zu", deepest(runs[i].run));
+        }
+        printf("\n");
+    }
 }
 
 int main(int count, char **words) {

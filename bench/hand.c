@@ -2,7 +2,7 @@
 
 #include <string.h>
 
-/* ---- job and points ---- */
+/* ---- job ---- */
 
 static uint32_t get16(const uint8_t *at) {
     return at[0] | (uint32_t)at[1] << 8;
@@ -26,45 +26,32 @@ static int in_range(uint32_t number, uint32_t most) {
     return number - 1 < most;
 }
 
+static int piece_in_range(khon_piece piece) {
+    return in_range(piece.width, KHON_SIZE_MAX) && in_range(piece.height, KHON_SIZE_MAX) &&
+           piece.value != 0;
+}
+
+static int sheet_in_range(const khon_job *job) {
+    return in_range(job->width, KHON_SIDE_MAX) && in_range(job->height, KHON_SIDE_MAX) &&
+           job->count <= KHON_PIECES_MAX;
+}
+
 /* The block's job; 0 if it is out of range. */
 static int read_job(const uint8_t *block, khon_job *job) {
     job->width = (uint16_t)get16(block);
     job->height = (uint16_t)get16(block + 2);
     job->count = (uint16_t)get16(block + 4);
-    if (!in_range(job->width, KHON_SIDE_MAX) || !in_range(job->height, KHON_SIDE_MAX) ||
-        job->count > KHON_PIECES_MAX)
+    if (!sheet_in_range(job))
         return 0;
     for (uint32_t i = 0; i < job->count; i++) {
         const uint8_t *record = block + 6 + 6 * i;
         khon_piece piece = {(uint16_t)get16(record), (uint16_t)get16(record + 2),
                             (uint16_t)get16(record + 4)};
-        if (!in_range(piece.width, KHON_SIZE_MAX) || !in_range(piece.height, KHON_SIZE_MAX) ||
-            piece.value == 0)
+        if (!piece_in_range(piece))
             return 0;
         job->pieces[i] = piece;
     }
     return 1;
-}
-
-typedef struct {
-    uint32_t count;
-    uint16_t at[KHON_SIDE_MAX];
-} points;
-
-static void find_points(const khon_job *job, int tall, points *found) {
-    uint8_t reached[KHON_SIDE_MAX + 1] = {1};
-    uint32_t side = tall ? job->height : job->width;
-    found->count = 0;
-    for (uint32_t s = 0; s <= side; s++)
-        if (reached[s]) {
-            if (s > 0)
-                found->at[found->count++] = (uint16_t)s;
-            for (uint32_t i = 0; i < job->count; i++) {
-                uint32_t size = tall ? job->pieces[i].height : job->pieces[i].width;
-                if (s + size <= side)
-                    reached[s + size] = 1;
-            }
-        }
 }
 
 static uint32_t refuse_question(const uint8_t *block, size_t block_len, size_t cells_len,
@@ -76,6 +63,79 @@ static uint32_t refuse_question(const uint8_t *block, size_t block_len, size_t c
     if (!in_range(x, job->width) || !in_range(y, job->height))
         return KHON_OUTSIDE;
     return KHON_ACCEPTED;
+}
+
+/* ---- changes ---- */
+
+static uint32_t refuse_change(const khon_job *job, size_t cells_len) {
+    if (!sheet_in_range(job))
+        return KHON_BAD_JOB;
+    for (uint32_t i = 0; i < job->count; i++)
+        if (!piece_in_range(job->pieces[i]))
+            return KHON_BAD_JOB;
+    return cells_len < (size_t)job->width * job->height ? KHON_SHORT_TABLE : KHON_ACCEPTED;
+}
+
+static void empty_where_fits(const khon_job *job, uint32_t *cells, khon_piece size) {
+    for (uint32_t w = size.height; w <= job->height; w++)
+        for (uint32_t u = size.width; u <= job->width; u++)
+            cells[(w - 1) * job->width + u - 1] = KHON_EMPTY;
+}
+
+/* What stands behind the last piece comes back as zeros. */
+static khon_changed accepted(khon_job job) {
+    memset(job.pieces + job.count, 0, (KHON_PIECES_MAX - job.count) * sizeof *job.pieces);
+    return (khon_changed){KHON_ACCEPTED, job};
+}
+
+khon_changed hand_open(uint32_t width, uint32_t height, uint32_t *cells, size_t cells_len) {
+    khon_job job = {(uint16_t)width, (uint16_t)height, 0, {{0, 0, 0}}};
+    if (!in_range(width, KHON_SIDE_MAX) || !in_range(height, KHON_SIDE_MAX))
+        return (khon_changed){KHON_BAD_JOB, {0, 0, 0, {{0, 0, 0}}}};
+    if (cells_len < (size_t)width * height)
+        return (khon_changed){KHON_SHORT_TABLE, {0, 0, 0, {{0, 0, 0}}}};
+    empty_where_fits(&job, cells, (khon_piece){1, 1, 0});
+    return accepted(job);
+}
+
+khon_changed hand_add(khon_job job, uint32_t *cells, size_t cells_len, khon_piece piece) {
+    uint32_t refusal = refuse_change(&job, cells_len);
+    if (refusal == KHON_ACCEPTED && !piece_in_range(piece))
+        refusal = KHON_BAD_PIECE;
+    if (refusal == KHON_ACCEPTED && job.count == KHON_PIECES_MAX)
+        refusal = KHON_FULL;
+    if (refusal != KHON_ACCEPTED)
+        return (khon_changed){refusal, job};
+    empty_where_fits(&job, cells, piece);
+    job.pieces[job.count++] = piece;
+    return accepted(job);
+}
+
+khon_changed hand_correct(khon_job job, uint32_t *cells, size_t cells_len, uint32_t k,
+                          khon_piece piece) {
+    uint32_t refusal = refuse_change(&job, cells_len);
+    if (refusal == KHON_ACCEPTED && !in_range(k, job.count))
+        refusal = KHON_OUTSIDE;
+    if (refusal == KHON_ACCEPTED && !piece_in_range(piece))
+        refusal = KHON_BAD_PIECE;
+    if (refusal != KHON_ACCEPTED)
+        return (khon_changed){refusal, job};
+    empty_where_fits(&job, cells, job.pieces[k - 1]);
+    empty_where_fits(&job, cells, piece);
+    job.pieces[k - 1] = piece;
+    return accepted(job);
+}
+
+khon_changed hand_remove(khon_job job, uint32_t *cells, size_t cells_len, uint32_t k) {
+    uint32_t refusal = refuse_change(&job, cells_len);
+    if (refusal == KHON_ACCEPTED && !in_range(k, job.count))
+        refusal = KHON_OUTSIDE;
+    if (refusal != KHON_ACCEPTED)
+        return (khon_changed){refusal, job};
+    empty_where_fits(&job, cells, job.pieces[k - 1]);
+    job.count--;
+    memmove(job.pieces + k - 1, job.pieces + k, (job.count + 1 - k) * sizeof *job.pieces);
+    return accepted(job);
 }
 
 /* ---- ask ---- */
@@ -109,27 +169,53 @@ static uint32_t worth(const khon_job *job, const uint32_t *cells, const points *
     return most;
 }
 
-khon_asked hand_ask(const uint8_t *block, size_t block_len, uint32_t *cells, size_t cells_len,
-                    uint32_t x, uint32_t y) {
-    khon_job job;
+static int has_empty(const uint32_t *cells, uint32_t a, uint32_t x, uint32_t y) {
+    for (uint32_t w = 0; w < y; w++)
+        for (uint32_t u = 0; u < x; u++)
+            if (cells[w * a + u] == KHON_EMPTY)
+                return 1;
+    return 0;
+}
+
+static uint32_t fill(const khon_job *job, uint32_t *cells, uint32_t x, uint32_t y,
+                     points_finder *find) {
     points p, q;
+    uint32_t worked = 0;
+    find(job, 0, &p);
+    find(job, 1, &q);
+    for (uint32_t w = 1; w <= y; w++)
+        for (uint32_t u = 1; u <= x; u++) {
+            uint32_t *cell = &cells[(w - 1) * job->width + u - 1];
+            if (*cell == KHON_EMPTY) {
+                *cell = worth(job, cells, &p, &q, u, w);
+                worked++;
+            }
+        }
+    return worked;
+}
+
+static inline khon_asked ask_by(points_finder *find, const uint8_t *block, size_t block_len,
+                                uint32_t *cells, size_t cells_len, uint32_t x, uint32_t y) {
+    khon_job job;
     uint32_t worked = 0;
     uint32_t refusal = refuse_question(block, block_len, cells_len, x, y, &job);
     if (refusal == KHON_ACCEPTED && exceeds(cells, job.width, x, y))
         refusal = KHON_ALIEN_TABLE;
     if (refusal != KHON_ACCEPTED)
         return (khon_asked){refusal, 0, 0};
-    find_points(&job, 0, &p);
-    find_points(&job, 1, &q);
-    for (uint32_t w = 1; w <= y; w++)
-        for (uint32_t u = 1; u <= x; u++) {
-            uint32_t *cell = &cells[(w - 1) * job.width + u - 1];
-            if (*cell == KHON_EMPTY) {
-                *cell = worth(&job, cells, &p, &q, u, w);
-                worked++;
-            }
-        }
+    if (has_empty(cells, job.width, x, y))
+        worked = fill(&job, cells, x, y, find);
     return (khon_asked){KHON_ACCEPTED, cells[(y - 1) * job.width + x - 1], worked};
+}
+
+khon_asked hand_ask(const uint8_t *block, size_t block_len, uint32_t *cells, size_t cells_len,
+                    uint32_t x, uint32_t y) {
+    return ask_by(marked_points, block, block_len, cells, cells_len, x, y);
+}
+
+khon_asked herz_ask(const uint8_t *block, size_t block_len, uint32_t *cells, size_t cells_len,
+                    uint32_t x, uint32_t y) {
+    return ask_by(listed_points, block, block_len, cells, cells_len, x, y);
 }
 
 /* ---- the dull scheme ---- */
@@ -253,16 +339,9 @@ static uint32_t running_sum(const uint8_t *bytes, size_t length) {
     return sum;
 }
 
-static int has_empty(const uint32_t *cells, uint32_t a, uint32_t x, uint32_t y) {
-    for (uint32_t w = 0; w < y; w++)
-        for (uint32_t u = 0; u < x; u++)
-            if (cells[w * a + u] == KHON_EMPTY)
-                return 1;
-    return 0;
-}
-
-khon_planned hand_plan(const uint8_t *block, size_t block_len, const uint32_t *cells,
-                       size_t cells_len, uint32_t x, uint32_t y, uint8_t *file, size_t file_len) {
+static inline khon_planned plan_by(points_finder *find, const uint8_t *block, size_t block_len,
+                                   const uint32_t *cells, size_t cells_len, uint32_t x, uint32_t y,
+                                   uint8_t *file, size_t file_len) {
     khon_job job;
     sheet s = {&job, cells, {0}, {0}};
     uint32_t nodes, start;
@@ -273,8 +352,8 @@ khon_planned hand_plan(const uint8_t *block, size_t block_len, const uint32_t *c
         refusal = KHON_ALIEN_TABLE;
     if (refusal != KHON_ACCEPTED)
         return (khon_planned){refusal, 0, 0};
-    find_points(&job, 0, &s.p);
-    find_points(&job, 1, &s.q);
+    find(&job, 0, &s.p);
+    find(&job, 1, &s.q);
     nodes = count_nodes(&s, x, y);
     if (nodes >= 1u << 24)
         return (khon_planned){KHON_ALIEN_TABLE, 0, 0};
@@ -287,6 +366,16 @@ khon_planned hand_plan(const uint8_t *block, size_t block_len, const uint32_t *c
     put32(put32(put32(file + start, start), 3 * nodes), cell(&s, x, y));
     put32(file + start + 12, running_sum(file, start + 12));
     return (khon_planned){KHON_ACCEPTED, start + 16, cell(&s, x, y)};
+}
+
+khon_planned hand_plan(const uint8_t *block, size_t block_len, const uint32_t *cells,
+                       size_t cells_len, uint32_t x, uint32_t y, uint8_t *file, size_t file_len) {
+    return plan_by(marked_points, block, block_len, cells, cells_len, x, y, file, file_len);
+}
+
+khon_planned herz_plan(const uint8_t *block, size_t block_len, const uint32_t *cells,
+                       size_t cells_len, uint32_t x, uint32_t y, uint8_t *file, size_t file_len) {
+    return plan_by(listed_points, block, block_len, cells, cells_len, x, y, file, file_len);
 }
 
 /* ---- check ---- */

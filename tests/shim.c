@@ -132,13 +132,31 @@ khon_changed khon_remove(khon_job job, uint32_t *cells, size_t cells_len, uint32
 
 /* ---- ask ---- */
 
+/* P or Q, or what stands for it where the points are broken. */
+static void points_badly(const ref_job *job, int tall, uint8_t marks[REF_SIDE_MAX + 1]) {
+    ref_job fewer = *job;
+    uint8_t once[REF_SIDE_MAX + 1] = {1};
+    uint32_t side = tall ? job->height : job->width;
+    if (broken("the last piece makes no point") && job->count > 0)
+        fewer.count--;
+    ref_points(&fewer, tall, marks);
+    if (!broken("a size makes points but once"))
+        return;
+    for (uint32_t i = 0; i < job->count; i++) {
+        uint32_t size = tall ? job->pieces[i].height : job->pieces[i].width;
+        for (uint32_t s = side; s >= size && s > 0; s--)
+            once[s] |= once[s - size];
+    }
+    memcpy(marks + 1, once + 1, REF_SIDE_MAX);
+}
+
 /* The filling with a rule taken away; the tests of ask have passed. */
 static void fill_badly(const ref_job *job, const ref_job *for_points, uint32_t *cells, uint32_t x,
                        uint32_t y) {
     uint8_t in_p[REF_SIDE_MAX + 1], in_q[REF_SIDE_MAX + 1];
     uint32_t a = job->width;
-    ref_points(for_points, 0, in_p);
-    ref_points(for_points, 1, in_q);
+    points_badly(for_points, 0, in_p);
+    points_badly(for_points, 1, in_q);
     for (uint32_t w = 1; w <= y; w++)
         for (uint32_t u = 1; u <= x; u++) {
             uint32_t *cell = &cells[ref_cell(a, u, w)], most = 0;
@@ -170,7 +188,8 @@ static void fill_badly(const ref_job *job, const ref_job *for_points, uint32_t *
 
 static int fills_badly(void) {
     return broken("ask counts exact pieces only") || broken("ask stops short of half") ||
-           broken("ask tries every line") || broken("ask keeps P from before a correction");
+           broken("ask tries every line") || broken("ask keeps P from before a correction") ||
+           broken("the last piece makes no point") || broken("a size makes points but once");
 }
 
 khon_asked khon_ask(const uint8_t *block, size_t block_len, uint32_t *cells, size_t cells_len,

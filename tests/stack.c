@@ -84,11 +84,13 @@ static void run_check(void) {
 
 /* ---- what they are run on ---- */
 
-/* A sheet of 240 by 240 with so many pieces of other sizes, the first 1 by 1. */
-static void open_with(unsigned pieces) {
+/* A sheet of 240 by 240 with so many pieces, the first `least` by `least` and
+   each other one wider: from 1 on every position is a point, and every square a
+   piece, 479 levels deep; from 241 on there is no point. */
+static void open_with(unsigned pieces, unsigned least) {
     job = khon_open(SIDE, SIDE, cells, CELLS).job;
     for (unsigned k = 0; k < pieces; k++)
-        job = khon_add(job, cells, CELLS, (khon_piece){(uint16_t)(1 + k), (uint16_t)(1 + 3 * k % 64), 7}).job;
+        job = khon_add(job, cells, CELLS, (khon_piece){(uint16_t)(least + k), (uint16_t)(least + 3 * k % 64), 7}).job;
 }
 
 /* 479 levels, whatever the leaves: the deeper part of each line is the first or
@@ -120,7 +122,8 @@ static void write_leaning_file(int left) {
 
 /* ---- the checks ---- */
 
-static size_t own; /* what a thread takes for itself */
+static size_t own;     /* what a thread takes for itself */
+static const char *on; /* the job */
 
 static void fits(void (*run)(void), size_t named, const char *what) {
     size_t size = own + named;
@@ -128,26 +131,37 @@ static void fits(void (*run)(void), size_t named, const char *what) {
     if (size < (size_t)PTHREAD_STACK_MIN)
         size = (size_t)PTHREAD_STACK_MIN;
     size_t used = on_a_thread(run, size);
-    report(refusal == 0 && used <= own + named, "%s: %zu bytes of %zu", what, used - own, named);
+    report(refusal == 0 && used <= own + named, "%s: %s: %zu bytes of %zu", on, what, used - own, named);
+}
+
+/* Every call on one job. */
+static void all_calls(unsigned pieces, unsigned least) {
+    open_with(pieces == KHON_PIECES_MAX ? pieces - 1 : pieces, least);
+    fits(run_add, KHON_STACK_OTHER, "add");
+    open_with(pieces, least);
+    fits(run_correct, KHON_STACK_OTHER, "correct");
+    fits(run_remove, KHON_STACK_OTHER, "remove");
+    open_with(pieces, least);
+    fits(run_ask, KHON_STACK_OTHER, "ask, all cells");
+    fits(run_ask, KHON_STACK_OTHER, "ask, no cell");
+    fits(run_plan, KHON_STACK_PLAN, "plan");
+    fits(run_check, KHON_STACK_CHECK, "check of that plan");
 }
 
 int main(void) {
     own = on_a_thread(run_nothing, (size_t)PTHREAD_STACK_MIN);
+    on = "240 by 240";
     fits(run_open, KHON_STACK_OTHER, "open");
-    for (unsigned pieces = 1; pieces < KHON_PIECES_MAX; pieces += KHON_PIECES_MAX - 2) {
-        open_with(pieces);
-        fits(run_add, KHON_STACK_OTHER, "add");
-        fits(run_correct, KHON_STACK_OTHER, "correct");
-        fits(run_remove, KHON_STACK_OTHER, "remove");
-        open_with(pieces);
-        fits(run_ask, KHON_STACK_OTHER, "ask, all cells");
-        fits(run_ask, KHON_STACK_OTHER, "ask, no cell");
-        fits(run_plan, KHON_STACK_PLAN, pieces == 1 ? "plan, all squares" : "plan, 63 pieces");
-        fits(run_check, KHON_STACK_CHECK, pieces == 1 ? "check, all squares" : "check, 63 pieces");
-    }
+    on = "one piece, 479 levels";
+    all_calls(1, 1);
+    on = "64 pieces, every position a point, 479 levels";
+    all_calls(KHON_PIECES_MAX, 1);
+    on = "64 pieces, no position a point";
+    all_calls(KHON_PIECES_MAX, SIDE + 1);
+    on = "no piece, 479 levels";
     write_leaning_file(1);
-    fits(run_check, KHON_STACK_CHECK, "check, 479 levels in the first parts");
+    fits(run_check, KHON_STACK_CHECK, "check, deep in the first parts");
     write_leaning_file(0);
-    fits(run_check, KHON_STACK_CHECK, "check, 479 levels in the second parts");
+    fits(run_check, KHON_STACK_CHECK, "check, deep in the second parts");
     return report_end();
 }

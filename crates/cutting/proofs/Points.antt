@@ -1,12 +1,12 @@
--- Narrowing a rectangle to a point of P, or of Q, loses nothing (rule 3.4; Herz, Theorem 1).
-use Prim.Native.Nat.{ℕ, _+_, _-_, _≤_}
-use mathlib.Core.Logic.{⊎-elim}
+-- Narrowing a rectangle to a point of P, or of Q, loses nothing (rule 3.4; Herz, Theorem 1). A point is reached from an earlier one (rule 3.6).
+use Prim.Native.Nat.{ℕ, _+_, _-_, _≤_, _<_}
+use mathlib.Core.Logic.{_⊎_, inl, inr, ⊎-elim, _↔_}
 use mathlib.Core.Path.{_≡_, refl, sym, subst}
 use native.Mathlib.Omega.{arith}
 use Rattle.laws.proofs.Order.{le-or-lt}
 use Rattle.cutting.specs.Piece.{Lay, Turned}
 use Rattle.cutting.specs.Dissection.{Line, Earns}
-use Rattle.cutting.specs.Points.{Sum, P, Narrowed}
+use Rattle.cutting.specs.Points.{Width, Sum, P, Narrowed, FromEarlier}
 use Rattle.cutting.proofs.Dissection.{turned, widened}
 
 -- P is closed under adding: sums of sums are sums.
@@ -58,3 +58,21 @@ narrowed-width h (Earns.horizontal l s t) = above l (narrowed-width h s) (narrow
 -- The same for heights and Q, by turning.
 pub narrowed-height : {lay : Lay} {x y e : ℕ} → 1 ≤ y → Earns lay x y e → Narrowed (Turned lay) y x e
 narrowed-height h d = narrowed-width h (turned d)
+
+-- A number in the range is a point exactly when a piece reaches it from 0 or from an earlier point; for Q, of the turned lay (rule 3.6).
+pub points-earlier : (lay : Lay) (a c : ℕ) → P lay a c ↔ ((1 ≤ c) × (c ≤ a) × FromEarlier lay a c)
+points-earlier lay a c = ((λ p. (p .notZero, p .within, earlier c (p .sum) (p .notZero) (p .within))), back)
+  where
+    earlier : (t : ℕ) → Sum (Width lay) t → 1 ≤ t → t ≤ a → FromEarlier lay a t
+    earlier t (Sum.one w) h l = FromEarlier.fromZero w
+    earlier t (Sum.more {s = s} {r = r} w rest e) h l = by (le-or-lt 1 s) (le-or-lt 1 r) (earlier r rest)
+      where
+        by : (1 ≤ s) ⊎ (s < 1) → (1 ≤ r) ⊎ (r < 1) → (1 ≤ r → r ≤ a → FromEarlier lay a r) → FromEarlier lay a t
+        by (inr none) y before = subst (FromEarlier lay a) (omega arith) (before (omega arith) (omega arith))
+        by (inl some) (inr none) before = FromEarlier.fromZero (subst (Width lay) (omega arith) w)
+        by (inl some) (inl rests) before =
+            FromEarlier.fromPoint w (record { sum = rest; within = omega arith; notZero = rests }) (omega arith) e
+
+    back : (1 ≤ c) × (c ≤ a) × FromEarlier lay a c → P lay a c
+    back (h, l, FromEarlier.fromZero w) = record { sum = Sum.one w; within = l; notZero = h }
+    back (h, l, FromEarlier.fromPoint w p b e) = record { sum = Sum.more w (p .sum) e; within = l; notZero = h }

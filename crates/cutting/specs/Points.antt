@@ -1,5 +1,5 @@
--- The points of P and Q (rules 3.1 to 3.3), and what narrowing a rectangle to one leaves (rule 3.4).
-use Prim.Native.Nat.{ℕ, _+_, _≤_}
+-- The points of P and Q (rules 3.1 to 3.3), what narrowing a rectangle to one leaves (rule 3.4), and how a piece reaches one (rule 3.6).
+use Prim.Native.Nat.{ℕ, _+_, _≤_, _<_}
 use mathlib.Core.Path.{_≡_}
 use Rattle.cutting.specs.Piece.{Lay, Turned}
 use Rattle.cutting.specs.Dissection.{Earns}
@@ -29,3 +29,8 @@ Q lay b d = P (Turned lay) b d
 pub data Narrowed (lay : Lay) (x y e : ℕ) : Type 0 where
   worthless : e ≡ 0 → Narrowed lay x y e
   atPoint : (c : ℕ) → P lay x c → Earns lay c y e → Narrowed lay x y e
+
+-- A piece reaches c from 0, or from an earlier number in P (rule 3.6).
+pub data FromEarlier (lay : Lay) (a c : ℕ) : Type 0 where
+  fromZero : Width lay c → FromEarlier lay a c
+  fromPoint : {p r : ℕ} → Width lay p → P lay a r → r < c → c ≡ p + r → FromEarlier lay a c

@@ -1,13 +1,11 @@
 -- The laws of the tests over a box: what they say of each cell, and one row or one cell more for the loops.
 use Prim.Native.Nat.{ℕ, suc, _+_, _-_, _*_, _≤_, _<_}
-use mathlib.Core.Bool.{Bool, true, false, not, _&&_, _||_}
+use mathlib.Core.Bool.{Bool, true, false, _||_}
 use mathlib.Core.Path.{_≡_, sym, ap, ap₂, _∙_}
 use mathlib.Core.List.{List}
 use native.Mathlib.Omega.{arith}
 use native.Mathlib.Numerals.{add-one}
 use native.Mathlib.Nat.{mul-comm, add-mul}
-use lib.Dec.{ltb, eqb}
-use borrow.Author.Tests.{eq-eqb, ne-eqb}
 use Rattle.laws.specs.Inner.{Says}
 use Rattle.laws.specs.Below.{sumBelow}
 use Rattle.laws.proofs.Says.{says-and, says-not, says-lt, says-eq, says-iff}

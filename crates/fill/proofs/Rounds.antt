@@ -200,9 +200,10 @@ row-full rows a b x w t ready none =
 -- .. and in such a box.
 pub box-full : (rows : Rows) (a b x y : ℕ) (t : List ℕ) → Holds a b t → Inside x y a b → Full a t x y
     → (0 ≡ countInBox x y (isEmpty a t)) × (t ≡ filled rows a b x y t)
-box-full rows a b x y t h i full =
-    (sym (countInBox-zero x y (isEmpty a t) (λ u w j. says-no (isEmpty-says a t u w) (full u w j))),
-    filled-full rows a b x y t (h .room) (i .widthMost) (i .heightMost) full)
+box-full rows a b x y t h i full = (
+  sym (countInBox-zero x y (isEmpty a t) (λ u w j. says-no (isEmpty-says a t u w) (full u w j))),
+  filled-full rows a b x y t (h .room) (i .widthMost) (i .heightMost) full,
+)
 
 -- Up the rows: the first j rows of the box are done.
 module _ (rows : Rows) (a b x y : ℕ) (t : List ℕ) (ready : BoxReady rows a b x y t) (j : ℕ) (more : j < y) where

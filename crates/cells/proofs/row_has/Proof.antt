@@ -1,6 +1,6 @@
 -- `cells::row_has` finds a sought cell in row w. The loop's invariant: whether there is one in the first i columns, and what they may earn.
 use Prim.Native.Nat.{_+_, _-_, _*_, _≤_}
-use mathlib.Core.Path.{_≡_, sym, _∙_}
+use mathlib.Core.Path.{_≡_, sym}
 use native.Mathlib.Omega.{arith}
 use Rattle.cutting.specs.Limits.{valueMax}
 use Rattle.cells.specs.Inner.{anyInRow, sought}
@@ -16,15 +16,6 @@ Inv-loop t a x w empty column most₀ found₀ i₀ most found i = (found ≡ an
 abbrev μ-loop : tie.MeasureT-loop
 μ-loop t a x w empty column most₀ found₀ i₀ most found i = x - i
 
-cast-column : tie.Need-cast-column Inv-loop μ-loop
-cast-column c = omega arith
-
-cast-column-2 : tie.Need-cast-column-2 Inv-loop μ-loop
-cast-column-2 c = omega arith
-
-mul-column : tie.Need-mul-column Inv-loop μ-loop
-mul-column c = omega arith
-
 loop-holds : tie.Need-loop-holds Inv-loop μ-loop
 loop-holds c = (sym (anyInRow-none _ _), omega arith, omega arith)
 
@@ -33,21 +24,6 @@ add-most c =
     let start = c .before .before .before in
     let within = area-fits {u = c .before .loop .i + 1} {w = start .args .w} (omega (arith, start .pre)) (omega (arith, start .pre)) in
     omega (arith, within, column-more _ (start .args .w) (c .before .loop .inv .1))
-
-add-cell : tie.Need-add-cell Inv-loop μ-loop
-add-cell c = omega arith
-
-cell-requires : tie.Need-cell-requires Inv-loop μ-loop
-cell-requires c κs = omega arith
-
-is-sought-requires : tie.Need-is-sought-requires Inv-loop μ-loop
-is-sought-requires c κs = search needs
-
-add-i : tie.Need-add-i Inv-loop μ-loop
-add-i c = omega arith
-
-loop-less : tie.Need-loop-less Inv-loop μ-loop
-loop-less c = omega arith
 
 loop-again : tie.Need-loop-again Inv-loop μ-loop
 loop-again c =
@@ -59,4 +35,4 @@ returns : tie.Need-returns Inv-loop μ-loop
 returns c = let end : c .before .loop .i ≡ c .before .before .before .args .x = omega arith in rw (← end) (c .before .loop .inv .0)
 
 pub row-has-spec : {M : Type 1} → statement M
-row-has-spec = tie.close (tie.spec Inv-loop μ-loop cast-column cast-column-2 mul-column loop-holds add-most add-cell cell-requires is-sought-requires add-i loop-less loop-again returns)
+row-has-spec = tie.close (tie.spec Inv-loop μ-loop (λ c. omega arith) (λ c. omega arith) (λ c. omega arith) loop-holds add-most (λ c. omega arith) (λ c κs. omega arith) (λ c κs. search needs) (λ c. omega arith) (λ c. omega arith) loop-again returns)

@@ -54,10 +54,10 @@ box-filled job t x y {board = board} range e h k =
     let high : heightOn board ≡ job .height = ap heightOn e ∙ board-height job (range .countMost) in
     (h ∙ ap (λ (m : ℕ). countInBox x y (isEmpty m t)) wide, k ∙ (λ i. filled (rowsOn (e i)) (wide i) (high i) x y t))
 
--- A box without an empty cell, found so with the code's width, is as it was, and nothing is counted.
-pub box-still : (job : Job) (t : List ℕ) (x y : ℕ) {a : ℕ} {r : Bool} → Usable job t → Inside x y (job .width) (job .height) → a ≡ job .width
-    → r ≡ anyInBox x y (isEmpty a t) → not r ≡ true → (0 ≡ countInBox x y (isEmpty (job .width) t)) × (t ≡ filledFor job t x y)
+-- A box without an empty cell, looked for with the code's width, is as it was, and nothing is counted.
+pub box-still : (job : Job) (t : List ℕ) (x y : ℕ) {a : ℕ} {r : Bool} → a ≡ job .width → r ≡ anyInBox x y (isEmpty a t) → not r ≡ true
+    → (0 ≡ countInBox x y (isEmpty (job .width) t)) × (t ≡ filledFor job t x y)
 unfolding filledFor
-box-still job t x y {a = a} u i wide e none =
-    box-full (jobRows job) (job .width) (job .height) x y t (usable-holds job t u) i
+box-still job t x y {a = a} wide e none =
+    box-full (jobRows job) (job .width) (job .height) x y t
     (subst (λ (m : ℕ). Full m t x y) wide (full-says a t x y .means (ap not (sym e) ∙ none)))

@@ -44,8 +44,8 @@ filled-none rows a b x y t h =
     filled-still rows a b x y t (λ u w i f. absurd (⊎-elim (λ e. omega (arith, f .wide, i .widthLeast)) (λ e. omega (arith, f .high, i .heightLeast)) h))
 
 -- .. and a full one.
-pub filled-full : (rows : Rows) (a b x y : ℕ) (t : List ℕ) → a * b ≤ length t → x ≤ a → y ≤ b → Full a t x y → t ≡ filled rows a b x y t
-filled-full rows a b x y t room h k full = filled-still rows a b x y t (λ u w i f. final-kept rows (cellOf a t) u w (full u w (omega arith)))
+pub filled-full : (rows : Rows) (a b x y : ℕ) (t : List ℕ) → Full a t x y → t ≡ filled rows a b x y t
+filled-full rows a b x y t full = filled-still rows a b x y t (λ u w i f. final-kept rows (cellOf a t) u w (full u w (omega arith)))
 
 -- The test for a full box.
 pub full-says : (a : ℕ) (t : List ℕ) (x y : ℕ) → Says (not (anyInBox x y (isEmpty a t))) (Full a t x y)

@@ -157,8 +157,7 @@ module _ (rows : Rows) (a b x w from : ℕ) (t : List ℕ) (ready : RowReady row
       (last-or-below {k = v} {n = w} (omega (arith, i .heightMost)))
 
   pub entered : t ≡ filled rows a b (from - 1) w t
-  entered =
-      filled-full rows a b (from - 1) w t (ready .holds .room) (omega (arith, start .most, ready .inside .widthMost)) (ready .inside .heightMost) entered-full
+  entered = filled-full rows a b (from - 1) w t entered-full
 
   pub entered-count : 0 ≡ countInRow (from - 1) w (isEmpty a t)
   entered-count = sym (countInRow-zero (from - 1) w (isEmpty a t) (λ u p h. says-no (isEmpty-says a t u w) (start .full u p (omega (arith, start .least)))))
@@ -198,11 +197,10 @@ row-full rows a b x w t ready none =
         }
 
 -- .. and in such a box.
-pub box-full : (rows : Rows) (a b x y : ℕ) (t : List ℕ) → Holds a b t → Inside x y a b → Full a t x y
-    → (0 ≡ countInBox x y (isEmpty a t)) × (t ≡ filled rows a b x y t)
-box-full rows a b x y t h i full = (
-  sym (countInBox-zero x y (isEmpty a t) (λ u w j. says-no (isEmpty-says a t u w) (full u w j))),
-  filled-full rows a b x y t (h .room) (i .widthMost) (i .heightMost) full,
+pub box-full : (rows : Rows) (a b x y : ℕ) (t : List ℕ) → Full a t x y → (0 ≡ countInBox x y (isEmpty a t)) × (t ≡ filled rows a b x y t)
+box-full rows a b x y t full = (
+  sym (countInBox-zero x y (isEmpty a t) (λ u w i. says-no (isEmpty-says a t u w) (full u w i))),
+  filled-full rows a b x y t full,
 )
 
 -- Up the rows: the first j rows of the box are done.

@@ -11,10 +11,7 @@ has-empty-requires c κs =
     usable-box _ _ _ _ (start .pre .0) (start .pre .1 .0) (c .wide .ensures .0)
 
 returns : tie.Need-returns
-returns c =
-    let at-width = c .before .before in
-    let start = at-width .before .before .before in
-    box-still _ _ _ _ (start .pre .0) (start .pre .1 .0) (at-width .wide .ensures .0) (c .before .has-empty .ensures) (c .if1 .taken)
+returns c = box-still _ _ _ _ (c .before .before .wide .ensures .0) (c .before .has-empty .ensures) (c .if1 .taken)
 
 fill-box-requires : tie.Need-fill-box-requires
 fill-box-requires c κs =

@@ -1,13 +1,11 @@
 -- The laws of the tests over a box: what they say of each cell, and one row or one cell more for the loops.
 use Prim.Native.Nat.{ℕ, suc, _+_, _-_, _*_, _≤_, _<_}
-use mathlib.Core.Bool.{Bool, true, false, not, _&&_, _||_}
+use mathlib.Core.Bool.{Bool, true, false, _||_}
 use mathlib.Core.Path.{_≡_, sym, ap, ap₂, _∙_}
 use mathlib.Core.List.{List}
 use native.Mathlib.Omega.{arith}
 use native.Mathlib.Numerals.{add-one}
-use native.Mathlib.Nat.{mul-comm}
-use lib.Dec.{ltb, eqb}
-use borrow.Author.Tests.{eq-eqb, ne-eqb}
+use native.Mathlib.Nat.{mul-comm, add-mul}
 use Rattle.laws.specs.Inner.{Says}
 use Rattle.laws.specs.Below.{sumBelow}
 use Rattle.laws.proofs.Says.{says-and, says-not, says-lt, says-eq, says-iff}
@@ -17,7 +15,7 @@ use Rattle.cutting.specs.Limits.{valueMax}
 use Rattle.cutting.specs.Piece.{Inside}
 use Rattle.cells.specs.Cells.{empty, cellOf}
 use Rattle.cells.specs.Box.{counted, countInRow, countInBox, isEmpty}
-use Rattle.cells.specs.Inner.{anyInRow, anyInBox, tooMuch, exceeds, sought}
+use Rattle.cells.specs.Inner.{anyInRow, anyInBox, tooMuch, exceeds, soughtIn, sought}
 
 -- The tests of one cell.
 pub isEmpty-says : (a : ℕ) (t : List ℕ) (u w : ℕ) → Says (isEmpty a t u w) (cellOf a t u w ≡ empty)
@@ -27,23 +25,6 @@ isEmpty-says a t u w = says-eq (cellOf a t u w) empty
 pub exceeds-says : (a : ℕ) (t : List ℕ) (u w : ℕ) → Says (exceeds a t u w) ((cellOf a t u w ≡ empty → ⊥) × (u * w * valueMax < cellOf a t u w))
 unfolding exceeds tooMuch
 exceeds-says a t u w = says-and (says-not (says-eq (cellOf a t u w) empty)) (says-lt (u * w * valueMax) (cellOf a t u w))
-
--- The same, as the code comes to them.
-pub tooMuch-empty : (v u w : ℕ) → v ≡ empty → false ≡ tooMuch v u w
-unfolding tooMuch
-tooMuch-empty v u w e = sym (ap (λ c. not c && ltb (u * w * valueMax) v) (eq-eqb v empty e))
-
-pub tooMuch-filled : (v u w : ℕ) → (v ≡ empty → ⊥) → ltb (u * w * valueMax) v ≡ tooMuch v u w
-unfolding tooMuch
-tooMuch-filled v u w e = sym (ap (λ c. not c && ltb (u * w * valueMax) v) (ne-eqb v empty e))
-
-pub sought-empty : {e : Bool} (a : ℕ) (t : List ℕ) (u w v : ℕ) → e ≡ true → v ≡ cellOf a t u w → eqb v empty ≡ sought e a t u w
-unfolding sought isEmpty
-sought-empty a t u w v e f = ap (λ k. eqb k empty) f ∙ sym (ap (λ c. sought c a t u w) e)
-
-pub sought-exceeding : {e r : Bool} (a : ℕ) (t : List ℕ) (u w v : ℕ) → e ≡ false → v ≡ cellOf a t u w → r ≡ tooMuch v u w → r ≡ sought e a t u w
-unfolding sought exceeds
-sought-exceeding a t u w v e f g = g ∙ (ap (λ k. tooMuch k u w) f ∙ sym (ap (λ c. sought c a t u w) e))
 
 -- Any: what it says.
 pub anyInRow-says : (x w : ℕ) (test : ℕ → ℕ → Bool) → Says (anyInRow x w test) ((u : ℕ) × (1 ≤ u) × (u ≤ x) × (test u w ≡ true))
@@ -104,16 +85,19 @@ pub anyInRow-none : (w : ℕ) (test : ℕ → ℕ → Bool) → anyInRow 0 w tes
 unfolding anyInRow
 anyInRow-none w test = anyBelow-none _
 
-pub anyInRow-more : (i w : ℕ) (test : ℕ → ℕ → Bool) → anyInRow i w test ≡ false → test (i + 1) w ≡ false → anyInRow (i + 1) w test ≡ false
+pub anyInRow-more : (i w : ℕ) (test : ℕ → ℕ → Bool) → anyInRow (i + 1) w test ≡ anyInRow i w test || test (i + 1) w
 unfolding anyInRow
-anyInRow-more i w test e f =
-    anyBelow-more (λ k. test (suc k) w) i ∙ ap₂ _||_ e (ap (λ u. test u w) (sym (add-one i)) ∙ f)
+anyInRow-more i w test = anyBelow-more (λ k. test (suc k) w) i ∙ ap (λ u. anyInRow i w test || test u w) (sym (add-one i))
 
-pub anyInRow-found : {i x : ℕ} (w : ℕ) (test : ℕ → ℕ → Bool) → i < x → test (i + 1) w ≡ true → anyInRow x w test ≡ true
-anyInRow-found {i} {x} w test h e = anyInRow-says x w test .found (i + 1, omega arith, omega arith, e)
+-- What the cell of the next column may earn.
+pub column-more : (i w : ℕ) {m : ℕ} → m ≡ i * w * valueMax → m + w * valueMax ≡ (i + 1) * w * valueMax
+column-more i w e = omega (arith, add-mul i 1 w)
 
-pub anyInRow-end : {i x : ℕ} (w : ℕ) (test : ℕ → ℕ → Bool) → i ≡ x → anyInRow i w test ≡ false → false ≡ anyInRow x w test
-anyInRow-end w test e f = sym f ∙ ap (λ k. anyInRow k w test) e
+-- The same for a walk along row w that looks for a sought cell: the next one has the number v and may earn m.
+pub row-sought : {found here : Bool} (e : Bool) (a : ℕ) (t : List ℕ) (i w : ℕ) {v m : ℕ} → found ≡ anyInRow i w (sought e a t) → here ≡ soughtIn e v m
+    → v ≡ cellOf a t (i + 1) w → m ≡ (i + 1) * w * valueMax → (found || here) ≡ anyInRow (i + 1) w (sought e a t)
+unfolding sought
+row-sought e a t i w f h v m = ap₂ _||_ f (h ∙ ap₂ (soughtIn e) v m) ∙ sym (anyInRow-more i w (sought e a t))
 
 pub anyInBox-none : (x : ℕ) (test : ℕ → ℕ → Bool) → anyInBox x 0 test ≡ false
 unfolding anyInBox

@@ -8,7 +8,6 @@ use Rattle.laws.specs.ByIndex.{byIndex}
 use Rattle.cutting.specs.Limits.{sideMax, valueMax}
 use Rattle.laws.specs.Inner.{anyBelow}
 use Rattle.cells.specs.Cells.{empty, cellOf}
-use Rattle.cells.specs.Box.{isEmpty}
 
 -- The row in which each cell (x, y) of the sheet a by b holds `new x y`; the entries behind the cells stay (rule 4.3).
 unfoldable pub redrawn : ℕ → ℕ → (ℕ → ℕ → ℕ) → List ℕ → List ℕ
@@ -58,15 +57,18 @@ anyInRow x w test = anyBelow (λ i. test (suc i) w) x
 unfoldable pub anyInBox : ℕ → ℕ → (ℕ → ℕ → Bool) → Bool
 anyInBox x y test = anyBelow (λ j. anyInRow x (suc j) test) y
 
--- Does the number v of a cell (u, w) exceed what the area may earn? An empty cell's does not.
-unfoldable pub tooMuch : ℕ → ℕ → ℕ → Bool
-tooMuch v u w = not (eqb v empty) && ltb (u * w * valueMax) v
+-- Is v the number of a filled cell, and more than the m that the cell may earn?
+unfoldable pub tooMuch : ℕ → ℕ → Bool
+tooMuch v m = not (eqb v empty) && ltb m v
 
 -- Is cell (u, w) filled, and does it hold more than its area may earn (rule 7.7)?
 unfoldable pub exceeds : ℕ → List ℕ → ℕ → ℕ → Bool
-exceeds a t u w = tooMuch (cellOf a t u w) u w
+exceeds a t u w = tooMuch (cellOf a t u w) (u * w * valueMax)
 
--- What a walk over a box looks for: an empty cell, or else one that exceeds.
+-- What a walk over a box looks for: an empty cell, or else one that exceeds. First for the number v of a cell that may earn m.
+unfoldable pub soughtIn : Bool → ℕ → ℕ → Bool
+soughtIn true v m = eqb v empty
+soughtIn false v m = tooMuch v m
+
 unfoldable pub sought : Bool → ℕ → List ℕ → ℕ → ℕ → Bool
-sought true = isEmpty
-sought false = exceeds
+sought e a t u w = soughtIn e (cellOf a t u w) (u * w * valueMax)

@@ -5,7 +5,7 @@ ghost use lib.ListN.{set};
 ghost use Rattle.cutting.specs.Limits.{sideMax};
 ghost use Rattle.cutting.specs.Piece.{Inside};
 ghost use Rattle.cells.specs.Cells.{cellOf, place as placeOf};
-ghost use Rattle.cells.specs.Inner.{Holds, anyInRow, anyInBox, tooMuch, exceeds, sought, emptiedWhere, emptied, rowFrom};
+ghost use Rattle.cells.specs.Inner.{Holds, anyInRow, anyInBox, exceeds, sought, soughtIn, emptiedWhere, emptied, rowFrom};
 ghost use Rattle.cells.specs.Box.{isEmpty};
 use job::Piece;
 
@@ -85,6 +85,15 @@ pub fn has_exceeding(t: &[u32], a: usize, x: usize, y: usize) -> bool
     box_has(t, a, x, y, false)
 }
 
+// Is a cell of row w, in columns 1 to x, empty?
+pub fn row_has_empty(t: &[u32], a: usize, x: usize, w: usize) -> bool
+    requires { ⌜ Holds a w (now t) ⌝ }
+    requires { ⌜ x ≤ a ⌝ }
+    ensures { λ r. ⌜ r ≡ anyInRow x w (isEmpty a (now (t .entry))) ⌝ }
+{
+    row_has(t, a, x, w, true)
+}
+
 // Is there a sought cell in the box x by y: an empty one, or else one that exceeds?
 fn box_has(t: &[u32], a: usize, x: usize, y: usize, empty: bool) -> bool
     requires { ⌜ Holds a y (now t) ⌝ }
@@ -101,42 +110,31 @@ fn box_has(t: &[u32], a: usize, x: usize, y: usize, empty: bool) -> bool
     false
 }
 
-// The same for columns 1 to x of row w.
+// The same for columns 1 to x of row w. No exit before the row's end, and 32 bits throughout: so the loop becomes vectors.
+// What a cell may earn runs along, a column's worth at each step; it is at most 3,774,816,000.
 fn row_has(t: &[u32], a: usize, x: usize, w: usize, empty: bool) -> bool
     requires { ⌜ Holds a w (now t) ⌝ }
     requires { ⌜ x ≤ a ⌝ }
     ensures { λ r. ⌜ r ≡ anyInRow x w (sought empty a (now (t .entry))) ⌝ }
 {
+    let column = w as u32 * (Piece::VALUE_MAX as u32);
+    let mut most: u32 = 0;
+    let mut found = false;
     let mut i = 0;
     while i < x {
-        if is_sought(t, a, i + 1, w, empty) {
-            return true;
-        }
+        most += column;
+        found = found | is_sought(cell(t, a, i + 1, w), most, empty);
         i += 1;
     }
-    false
+    found
 }
 
-// The same for cell (u, w).
-fn is_sought(t: &[u32], a: usize, u: usize, w: usize, empty: bool) -> bool
-    requires { ⌜ Holds a w (now t) ⌝ }
-    requires { ⌜ Inside u w a w ⌝ }
-    ensures { λ r. ⌜ r ≡ sought empty a (now (t .entry)) u w ⌝ }
+// The same for the number of a cell that may earn `most`.
+fn is_sought(value: u32, most: u32, empty: bool) -> bool
+    ensures { λ r. ⌜ r ≡ soughtIn empty value most ⌝ }
 {
-    let value = cell(t, a, u, w);
     if empty {
         return value == EMPTY;
     }
-    too_much(value, u, w)
-}
-
-// Does this number of a cell (u, w) exceed what the area can earn? An empty cell's does not.
-fn too_much(value: u32, u: usize, w: usize) -> bool
-    requires { ⌜ Inside u w sideMax sideMax ⌝ }
-    ensures { λ r. ⌜ r ≡ tooMuch value u w ⌝ }
-{
-    if value == EMPTY {
-        return false;
-    }
-    u * w * (Piece::VALUE_MAX as usize) < value as usize
+    (value != EMPTY) & (most < value)
 }

@@ -10,6 +10,7 @@ use lib.Dec.{leb, eqb}
 use borrow.Author.Tests.{le-leb}
 use Rattle.laws.specs.Inner.{Says, numberGiven}
 use Rattle.laws.proofs.Says.{says-no, says-false}
+use Rattle.cutting.specs.Limits.{valueMax}
 use Rattle.cutting.specs.Piece.{Fits, Inside}
 use Rattle.cells.specs.Cells.{empty, cellOf}
 use Rattle.cells.specs.Inner.{fits, emptiedWhere, exceeds, tooMuch, anyInBox}
@@ -86,7 +87,7 @@ agree-sheet job t s g = agree-empties (job .width) (job .height) (job .width) (j
 
 pub agree-exceeds : (a b x y : ℕ) (t s : List ℕ) → x ≤ a → y ≤ b → Agree a b t s → anyInBox x y (exceeds a t) ≡ anyInBox x y (exceeds a s)
 unfolding exceeds
-agree-exceeds a b x y t s h k g = anyInBox-same x y _ _ (λ u w i. ap (λ (v : ℕ). tooMuch v u w) (g .cells u w (omega arith)))
+agree-exceeds a b x y t s h k g = anyInBox-same x y _ _ (λ u w i. ap (λ (v : ℕ). tooMuch v (u * w * valueMax)) (g .cells u w (omega arith)))
 
 -- The test of refusal 2 is the same for both: both have the cells.
 pub agree-room : (job : Job) (t s : List ℕ) → Agree (job .width) (job .height) t s → leb (cellsOf job) (length t) ≡ leb (cellsOf job) (length s)

@@ -122,12 +122,14 @@ usable-holds job t u =
     let r = u .range in
     record { widthLeast = r .widthLeast; widthMost = r .widthMost; heightLeast = r .heightLeast; heightMost = r .heightMost; room = u .room }
 
+pub usable-box : (job : Job) (t : List ℕ) (x y : ℕ) {a : ℕ} → Usable job t → Inside x y (job .width) (job .height) → a ≡ job .width → Holds a y t × (x ≤ a)
+usable-box job t x y u i g =
+    subst (λ (m : ℕ). Holds m y t × (x ≤ m)) (sym g) (holds-lower y (usable-holds job t u) (i .heightLeast) (i .heightMost), i .widthMost)
+
 pub box-holds : (job : Job) (t : List ℕ) (x y : ℕ) {first a : ℕ} {r : Bool} → first ≡ jobRefused job t → first ≡ 0
     → r ≡ (within x (job .width) && within y (job .height)) → not r ≡ false → a ≡ job .width → Holds a y t × (x ≤ a)
-box-holds job t x y {a = a} e z f h g =
-    let i = inside-says x y (job .width) (job .height) .means (sym f ∙ not-false h) in
-    let u = usable-of job t e z in
-    subst (λ (m : ℕ). Holds m y t × (x ≤ m)) (sym g) (holds-lower y (usable-holds job t u) (i .heightLeast) (i .heightMost), i .widthMost)
+box-holds job t x y e z f h g =
+    usable-box job t x y (usable-of job t e z) (inside-says x y (job .width) (job .height) .means (sym f ∙ not-false h)) g
 
 pub box-test : (job : Job) (t : List ℕ) (x y : ℕ) {a : ℕ} {r : Bool} → r ≡ anyInBox x y (exceeds a t) → a ≡ job .width
     → r ≡ anyInBox x y (exceeds (job .width) t)

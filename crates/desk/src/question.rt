@@ -13,7 +13,7 @@ use board::PLACES;
 use fields::cast::wide;
 use job::Job;
 
-// Fills the box x by y: the board is laid out once for the whole box.
+// Fills the box x by y: the board is laid out once for the whole box, and not at all where no cell is empty.
 fn fill_for(job: Job, t: &mut [u32], x: usize, y: usize) -> u32
     requires { ⌜ Usable job (now t) ⌝ }
     requires { ⌜ Inside x y (job .width) (job .height) ⌝ }
@@ -21,6 +21,9 @@ fn fill_for(job: Job, t: &mut [u32], x: usize, y: usize) -> u32
     ensures { λ r. ⌜ r ≡ countInBox x y (isEmpty (job .width) (now (t .entry))) ⌝ }
     ensures { λ _. ⌜ now (t .exit) ≡ filledFor job (now (t .entry)) x y ⌝ }
 {
+    if !cells::has_empty(t, wide(job.width), x, y) {
+        return 0;
+    }
     let mut board: Board = [0; PLACES];
     board::lay_out(&mut board, job);
     fill::fill_box(t, &board, x, y)

@@ -1,6 +1,6 @@
 -- How a box is filled cell by cell and row by row: none, one more, and a box filled in two goes.
 use Prim.Native.Nat.{ℕ, _+_, _-_, _*_, _≤_, _<_}
-use mathlib.Core.Bool.{Bool, true, false, cond}
+use mathlib.Core.Bool.{Bool, true, false, cond, not}
 use mathlib.Core.Path.{_≡_, refl, sym, ap, _∙_, subst}
 use mathlib.Core.List.{List}
 use mathlib.Core.Logic.{_⊎_, inl, inr, ⊎-elim, _≢_}
@@ -9,14 +9,14 @@ use native.Mathlib.Decide.{ℕ-discrete}
 use lib.Dec.{eqb}
 use lib.ListN.{length, getD, set, length-set}
 use Rattle.laws.specs.Inner.{Says}
-use Rattle.laws.proofs.Says.{says-eq, says-false}
+use Rattle.laws.proofs.Says.{says-eq, says-false, says-not, says-iff}
 use Rattle.laws.proofs.Order.{le-or-lt}
 use Rattle.cutting.specs.Piece.{Fits, Inside}
 use Rattle.cells.specs.Cells.{empty, place, cellOf}
-use Rattle.cells.specs.Inner.{fits}
+use Rattle.cells.specs.Inner.{fits, anyInBox}
 use Rattle.cells.specs.Box.{isEmpty}
 use Rattle.cells.proofs.Emptied.{fits-says}
-use Rattle.cells.proofs.Box.{isEmpty-says}
+use Rattle.cells.proofs.Box.{isEmpty-says, anyInBox-says}
 use Rattle.cells.proofs.Redrawn.{redrawn-length, redrawn-beyond, redrawn-same, redrawn-keeps, redrawn-again, is-redrawn, store-same, store-other, store-beyond}
 use Rattle.board.specs.Inner.{Rows}
 use Rattle.fill.specs.Inner.{worthOf, settled, final, filled}
@@ -44,8 +44,17 @@ filled-none rows a b x y t h =
     filled-still rows a b x y t (λ u w i f. absurd (⊎-elim (λ e. omega (arith, f .wide, i .widthLeast)) (λ e. omega (arith, f .high, i .heightLeast)) h))
 
 -- .. and a full one.
-pub filled-full : (rows : Rows) (a b x y : ℕ) (t : List ℕ) → a * b ≤ length t → x ≤ a → y ≤ b → Full a t x y → t ≡ filled rows a b x y t
-filled-full rows a b x y t room h k full = filled-still rows a b x y t (λ u w i f. final-kept rows (cellOf a t) u w (full u w (omega arith)))
+pub filled-full : (rows : Rows) (a b x y : ℕ) (t : List ℕ) → Full a t x y → t ≡ filled rows a b x y t
+filled-full rows a b x y t full = filled-still rows a b x y t (λ u w i f. final-kept rows (cellOf a t) u w (full u w (omega arith)))
+
+-- The test for a full box.
+pub full-says : (a : ℕ) (t : List ℕ) (x y : ℕ) → Says (not (anyInBox x y (isEmpty a t))) (Full a t x y)
+full-says a t x y =
+    says-iff (
+      (λ none u w i h. none (u, w, i, isEmpty-says a t u w .found h)),
+      (λ f k. f (k .0) (k .1) (k .2) (isEmpty-says a t (k .0) (k .1) .means (k .3))),
+    )
+    (says-not (anyInBox-says x y (isEmpty a t)))
 
 pub filled-length : (rows : Rows) (a b x y : ℕ) (t : List ℕ) → length (filled rows a b x y t) ≡ length t
 unfolding filled

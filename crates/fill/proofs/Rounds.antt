@@ -1,21 +1,21 @@
 -- What the code needs and gives at each cell, row and box, over the definitions.
 use Prim.Native.Nat.{ℕ, _+_, _-_, _*_, _≤_, _<_, max}
-use mathlib.Core.Bool.{Bool, cond}
+use mathlib.Core.Bool.{Bool, false, cond}
 use mathlib.Core.Path.{_≡_, sym, ap, ap₂, _∙_, subst}
 use mathlib.Core.List.{List}
 use mathlib.Core.Logic.{⊎-elim}
 use native.Mathlib.Omega.{arith}
 use lib.ListN.{set}
 use Rattle.laws.proofs.Order.{le-or-lt, last-or-below}
-use Rattle.laws.proofs.Says.{says-no}
+use Rattle.laws.proofs.Says.{says-no, says-false}
 use Rattle.cutting.specs.Limits.{sideMax}
 use Rattle.cutting.specs.Piece.{Inside}
 use Rattle.cutting.proofs.Bound.{most, most-parts}
 use Rattle.cells.specs.Cells.{empty, place, cellOf}
-use Rattle.cells.specs.Inner.{Holds}
+use Rattle.cells.specs.Inner.{Holds, anyInRow}
 use Rattle.cells.specs.Box.{isEmpty, counted, countInRow, countInBox}
 use Rattle.cells.proofs.Places.{holds-lower, area-fits}
-use Rattle.cells.proofs.Box.{isEmpty-says, countInRow-more, countInBox-more, countInRow-same, countInRow-zero, countInRow-bound, countInBox-bound}
+use Rattle.cells.proofs.Box.{isEmpty-says, anyInRow-says, countInBox-zero, countInRow-more, countInBox-more, countInRow-same, countInRow-zero, countInRow-bound, countInBox-bound}
 use Rattle.board.specs.Inner.{Rows}
 use Rattle.fill.specs.Inner.{lineValue, worthOf, RowLines, floorBy, cellRaised, LinesUp, FullBefore, filled, Around, RowReady, BoxReady}
 use Rattle.fill.proofs.Worth.{lineValue-same}
@@ -128,6 +128,9 @@ module _ (rows : Rows) (a b x w : ℕ) (t : List ℕ) (ready : RowReady rows a b
   row-within e f g = subst (λ (k : ℕ). k ≤ i + 1) (sym (row-count e f g)) (countInRow-bound (i + 1) w (isEmpty a t))
 
 -- Looking for the first empty cell of a row.
+pub row-held : {rows : Rows} {a b x w : ℕ} {t : List ℕ} → RowReady rows a b x w t → Holds a w t × (x ≤ a)
+row-held {w = w} ready = (holds-lower w (ready .holds) (ready .inside .heightLeast) (ready .inside .heightMost), ready .inside .widthMost)
+
 pub before-none : (a : ℕ) (t : List ℕ) (x w : ℕ) → FullBefore a t x w (0 + 1)
 before-none a t x w = record { least = omega arith; most = omega arith; full = λ u p h. absurd (omega arith) }
 
@@ -154,8 +157,7 @@ module _ (rows : Rows) (a b x w from : ℕ) (t : List ℕ) (ready : RowReady row
       (last-or-below {k = v} {n = w} (omega (arith, i .heightMost)))
 
   pub entered : t ≡ filled rows a b (from - 1) w t
-  entered =
-      filled-full rows a b (from - 1) w t (ready .holds .room) (omega (arith, start .most, ready .inside .widthMost)) (ready .inside .heightMost) entered-full
+  entered = filled-full rows a b (from - 1) w t entered-full
 
   pub entered-count : 0 ≡ countInRow (from - 1) w (isEmpty a t)
   entered-count = sym (countInRow-zero (from - 1) w (isEmpty a t) (λ u p h. says-no (isEmpty-says a t u w) (start .full u p (omega (arith, start .least)))))
@@ -179,12 +181,27 @@ module _ (rows : Rows) (a b x w from : ℕ) (t : List ℕ) (ready : RowReady row
       below : (u d : ℕ) → from ≤ u → u ≤ x → 1 ≤ d → d < w → cellOf a t u d ≤ most u d
       below u d h k p l = ready .bounded u d (omega (arith, start .least)) (ready .full u d (omega (arith, start .least)))
 
--- Nothing is to be done in a row that is full.
-pub row-full : (rows : Rows) (a b x w from : ℕ) (t : List ℕ) → RowReady rows a b x w t → FullBefore a t x w from → x < from
+-- Nothing is to be done in a row without an empty cell ..
+pub row-full : (rows : Rows) (a b x w : ℕ) (t : List ℕ) → RowReady rows a b x w t → anyInRow x w (isEmpty a t) ≡ false
     → (0 ≡ countInRow x w (isEmpty a t)) × (t ≡ filled rows a b x w t)
-row-full rows a b x w from t ready start past =
-    subst (λ (m : ℕ). (0 ≡ countInRow m w (isEmpty a t)) × (t ≡ filled rows a b m w t)) (omega (arith, start .most, start .least))
-    (entered-count rows a b x w from t ready start, entered rows a b x w from t ready start)
+row-full rows a b x w t ready none =
+    subst (λ (m : ℕ). (0 ≡ countInRow m w (isEmpty a t)) × (t ≡ filled rows a b m w t)) (omega arith)
+    (entered-count rows a b x w (x + 1) t ready start, entered rows a b x w (x + 1) t ready start)
+  where
+    start : FullBefore a t x w (x + 1)
+    start =
+        record {
+          least = omega arith;
+          most = omega arith;
+          full = λ u p h e. says-false (anyInRow-says x w (isEmpty a t)) none (u, p, omega arith, isEmpty-says a t u w .found e);
+        }
+
+-- .. and in such a box.
+pub box-full : (rows : Rows) (a b x y : ℕ) (t : List ℕ) → Full a t x y → (0 ≡ countInBox x y (isEmpty a t)) × (t ≡ filled rows a b x y t)
+box-full rows a b x y t full = (
+  sym (countInBox-zero x y (isEmpty a t) (λ u w i. says-no (isEmpty-says a t u w) (full u w i))),
+  filled-full rows a b x y t full,
+)
 
 -- Up the rows: the first j rows of the box are done.
 module _ (rows : Rows) (a b x y : ℕ) (t : List ℕ) (ready : BoxReady rows a b x y t) (j : ℕ) (more : j < y) where

@@ -15,6 +15,7 @@ mod value;
 use board::Board;
 use floor::floor_of;
 use look::cell;
+use look::row_has_empty;
 use look::store;
 
 // Works cell (u, w) out where it is empty, from its floor and the lines across. Answers how many cells that were, 0 or 1.
@@ -70,10 +71,10 @@ fn fill_row(t: &mut [u32], board: &Board, x: usize, w: usize) -> u32
     ensures { λ r. ⌜ r ≡ countInRow x w (isEmpty (widthOn (now (board .entry))) (now (t .entry))) ⌝ }
     ensures { λ _. ⌜ now (t .exit) ≡ filledOn (now (board .entry)) x w (now (t .entry)) ⌝ }
 {
-    let from = first_empty(t, board, x, w);
-    if x < from {
+    if !row_has_empty(t, board, x, w) {
         return 0;
     }
+    let from = first_empty(t, board, x, w);
     fill_columns(t, board, from, x, w)
 }
 

@@ -1,6 +1,6 @@
 -- Each refusal number of plan is given exactly when the list says, and what number 0 grants.
 use Prim.Native.Nat.{ℕ, _≤_}
-use mathlib.Core.Bool.{Bool, not}
+use mathlib.Core.Bool.{Bool}
 use mathlib.Core.List.{List}
 use mathlib.Core.Path.{_≡_, refl, sym, ap, _∙_}
 use mathlib.Core.Logic.{inr, _↔_}
@@ -9,15 +9,15 @@ use lib.Dec.{leb}
 use lib.ListN.{length, take}
 use Rattle.laws.specs.Refusal.{Gives}
 use Rattle.laws.specs.Inner.{Says, Tested, says, end, everyNumber, PassesAt}
-use Rattle.laws.proofs.Says.{says-le, says-iff, says-not}
+use Rattle.laws.proofs.Says.{says-le, says-iff}
 use Rattle.laws.proofs.Refusal.{gives-exactly, tested-take, granted}
 use Rattle.cutting.specs.Piece.{Inside}
 use Rattle.cutting.specs.Tree.{Tree}
 use Rattle.cells.specs.Cells.{cellOf}
 use Rattle.cells.specs.Box.{isEmpty}
 use Rattle.cells.specs.Inner.{anyInBox}
-use Rattle.cells.proofs.Box.{anyInBox-says, isEmpty-says}
 use Rattle.fill.specs.Filled.{Full, Bounded}
+use Rattle.fill.proofs.Growing.{full-says}
 use Rattle.job.specs.declared.Job.{Job}
 use Rattle.job.specs.Range.{JobInRange}
 use Rattle.job.proofs.Range.{job-says}
@@ -27,15 +27,6 @@ use Rattle.plan.specs.File.{TreeFor, fileOf}
 use Rattle.plan.specs.Inner.{treeFor, planFile, boxRows, planTests, boxRefused, planRefused, Ready}
 use Rattle.plan.specs.Refusals.{Readable, HasTree, HasRoom, planRefusals, PlanRefusal}
 use Rattle.plan.proofs.Tracing.{tree-by-rules, rules-tree, tree-says}
-
--- The test of refusal 6 in the list's words.
-full-says : (a : ℕ) (t : List ℕ) (x y : ℕ) → Says (not (anyInBox x y (isEmpty a t))) (Full a t x y)
-full-says a t x y =
-    says-iff (
-      (λ none u w i h. none (u, w, i, isEmpty-says a t u w .found h)),
-      (λ f k. f (k .0) (k .1) (k .2) (isEmpty-says a t (k .0) (k .1) .means (k .3))),
-    )
-    (says-not (anyInBox-says x y (isEmpty a t)))
 
 module _ (job : Job) (t : List ℕ) (x y : ℕ) where
   -- The tests of the box, with the code's width.

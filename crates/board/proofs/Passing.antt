@@ -4,7 +4,7 @@ use mathlib.Core.Bool.{Bool, true, false, cond, _&&_, _||_}
 use mathlib.Core.Path.{_≡_, refl, sym, ap, subst, _∙_}
 use mathlib.Core.Logic.{_⊎_, inl, inr, ⊎-elim, _≢_}
 use native.Mathlib.Omega.{arith}
-use native.Mathlib.Nat.{eq-or-lt-of-le}
+use native.Mathlib.Nat.{add-zero, eq-or-lt-of-le}
 use lib.Dec.{leb, eqb}
 use Rattle.laws.specs.Inner.{Says, anyBelow}
 use Rattle.laws.proofs.Order.{le-or-lt, last-or-below}
@@ -35,10 +35,10 @@ module _ (made : ℕ → Bool) (step : ℕ → ℕ) where
   abbrev pub Unled : ℕ → ℕ → Type 0
   Unled j c = Led (λ m. made m ≡ true) step j c → ⊥
 
-  pub unled-more : (j c : ℕ) → Unled j c → made (c - step j) ≡ false → Unled (j + 1) c
-  unled-more j c none e l =
+  pub unled-more : (j c : ℕ) {g : ℕ} → Unled j c → g ≡ step j → (made (c - g) ≡ true → ⊥) → Unled (j + 1) c
+  unled-more j c none e new l =
       ⊎-elim
-      (λ q. true≢false (sym (l .leaves) ∙ (ap (λ (i : ℕ). made (c - step i)) q ∙ e)))
+      (λ q. new (ap (λ (s : ℕ). made (c - s)) (e ∙ sym (ap step q)) ∙ l .leaves))
       (λ b. none (record { index = l .index; among = b; tried = l .tried; leaves = l .leaves }))
       (last-or-below {k = l .index} {n = j} (omega (arith, l .among)))
 
@@ -51,14 +51,14 @@ module _ (made : ℕ → Bool) (step : ℕ → ℕ) where
       (le-or-lt j (l .index))
 
 -- The sizes, marked one after the other.
-module _ (size : ℕ → ℕ) (side : ℕ) where
-  pub isWithin-says : (c : ℕ) → Says (isWithin side c) ((1 ≤ c) × (c ≤ side))
-  unfolding isWithin
-  isWithin-says c = says-and (says-le 1 c) (says-le c side)
+pub isWithin-says : (side c : ℕ) → Says (isWithin side c) ((1 ≤ c) × (c ≤ side))
+unfolding isWithin
+isWithin-says side c = says-and (says-le 1 c) (says-le c side)
 
+module _ (size : ℕ → ℕ) (side : ℕ) where
   pub isSize-says : (n c : ℕ) → Says (isSize size n side c) (((1 ≤ c) × (c ≤ side)) × Size size n c)
   unfolding isSize
-  isSize-says n c = says-and (isWithin-says c) (says-iff (to, from) (anyBelow-says (λ k. eqb (size k) c) n))
+  isSize-says n c = says-and (isWithin-says side c) (says-iff (to, from) (anyBelow-says (λ k. eqb (size k) c) n))
     where
       to : (k : ℕ) × (k < n) × (eqb (size k) c ≡ true) → Size size n c
       to (k, b, e) = record { index = k; among = b; equal = says-eq (size k) c .means e }
@@ -70,25 +70,20 @@ module _ (size : ℕ → ℕ) (side : ℕ) where
   isSize-none c = says-no (isSize-says 0 c) (λ s. omega (arith, s .1 .among))
 
   -- The code's n + 1: only the mark of the new size can change.
-  pub isSize-other : (n c : ℕ) → c ≢ size n → isSize size n side c ≡ isSize size (n + 1) side c
-  isSize-other n c d =
-      says-same (isSize-says n c) (says-iff ((λ s. (s .0, less (s .1))), (λ s. (s .0, more-of (s .1)))) (isSize-says (n + 1) c))
+  pub isSize-other : (n c : ℕ) → (c ≡ size n → (1 ≤ c) × (c ≤ side) → ⊥) → isSize size n side c ≡ isSize size (n + 1) side c
+  isSize-other n c new =
+      says-same (isSize-says n c) (says-iff (less, (λ s. (s .0, record { index = s .1 .index; among = omega (arith, s .1 .among); equal = s .1 .equal }))) (isSize-says (n + 1) c))
     where
-      less : Size size (n + 1) c → Size size n c
-      less s =
-          record {
-            index = s .index;
-            among = ⊎-elim (λ e. absurd (d (sym (s .equal) ∙ ap size e))) (λ b. b) (last-or-below {k = s .index} {n = n} (omega (arith, s .among)));
-            equal = s .equal;
-          }
-
-      more-of : Size size n c → Size size (n + 1) c
-      more-of s = record { index = s .index; among = omega (arith, s .among); equal = s .equal }
+      less : ((1 ≤ c) × (c ≤ side)) × Size size (n + 1) c → ((1 ≤ c) × (c ≤ side)) × Size size n c
+      less (h, s) =
+          let before : s .index < n =
+          ⊎-elim (λ e. absurd (new (sym (s .equal) ∙ ap size e) h)) (λ b. b) (last-or-below {k = s .index} {n = n} (omega (arith, s .among))) in
+          (h, record { index = s .index; among = before; equal = s .equal })
 
   pub isSize-new : (n : ℕ) → isSize size (n + 1) side (size n) ≡ isWithin side (size n)
   isSize-new n =
       says-same (isSize-says (n + 1) (size n))
-      (says-iff ((λ h. (h, record { index = n; among = omega arith; equal = refl })), (λ s. s .0)) (isWithin-says (size n)))
+      (says-iff ((λ h. (h, record { index = n; among = omega arith; equal = refl })), (λ s. s .0)) (isWithin-says side (size n)))
 
 -- A number beside the sums: two of them add up to one.
 sum-add : {S : ℕ → Type 0} {t u : ℕ} → Sum S t → Sum S u → Sum S (t + u)
@@ -99,7 +94,7 @@ module _ (size : ℕ → ℕ) (n : ℕ) where
   abbrev pub IsReached : ℕ → Type 0
   IsReached c = reaches size n c ≡ true
 
-  reaches-add : (s r : ℕ) → IsReached s → IsReached r → IsReached (s + r)
+  pub reaches-add : (s r : ℕ) → IsReached s → IsReached r → IsReached (s + r)
   reaches-add s r x y =
       let a = reaches-least size n s x in
       let b = reaches-least size n r y in
@@ -208,4 +203,4 @@ module _ (size : ℕ → ℕ) (n side : ℕ) where
         by : (b own : Bool) → Says b (Led R step held (last + 1)) → Says (b || own) (R (last + 1)) → Stepped R (last + 1) other (cond b held (held + bit own))
         by true own led here = stay (λ _. led .means refl)
         by false true led here = steps-grow R least add (steps-kept R least add steps keeps) new (here .means refl)
-        by false false led here = stay (λ r. absurd (says-false here refl r))
+        by false false led here = rw add-zero (stay (λ r. absurd (says-false here refl r)))

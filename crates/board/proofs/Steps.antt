@@ -38,6 +38,15 @@ pub record Stepped (R : ℕ → Type 0) (last : ℕ) (step : ℕ → ℕ) (held 
   pub served : (t : ℕ) → t ≤ last → R t → Served R step held t
 
 module _ (R : ℕ → Type 0) (least : (t : ℕ) → R t → 1 ≤ t) (add : (s r : ℕ) → R s → R r → R (s + r)) where
+  pub steps-none : (step : ℕ → ℕ) → Stepped R 0 step 0
+  steps-none step =
+      record {
+        few = omega arith;
+        each = λ j h. absurd (omega arith);
+        rising = record { rises = λ i j l h. absurd (omega arith) };
+        served = λ t l r. absurd (omega (arith, least t r));
+      }
+
   -- The step that serves the smaller of two parts is at most half of their sum.
   smaller-led : {step : ℕ → ℕ} {held c s r : ℕ} → s ≤ r → c ≡ s + r → Served R step held s → R r → Led R step held c
   smaller-led {step} {held} {c} {s} {r} l e v x = by (v .serves)

@@ -1,25 +1,13 @@
+-- `held_after`: a number's mark is how many steps it is, unless a step leads to it.
+use Prim.Native.Nat.{ℕ, _+_}
+use mathlib.Core.Path.{ap}
+use Rattle.laws.proofs.Choice.{if-false}
 use borrow.Author.Needs.{needs}
 use Rattle.board.proofs.points.held_after.Statement.{statement}
 use Rattle.board.proofs.points.held_after.Tie as tie
-use Rattle.board.proofs.points.held_after.Reads as reads
-use Rattle.board.proofs.points.held_after.Lts as lts
-use Rattle.fields.proofs.cast.wide.Reads as wide-reads
 
--- src/points.rt:84:35
-wide-requires : tie.Need-wide-requires
-wide-requires c κs = search needs
-
--- src/points.rt:84:28
-add-result : tie.Need-add-result
-add-result c = search needs
-
--- src/points.rt:80:1
-returns : tie.Need-returns
-returns c = search needs
-
--- src/points.rt:80:1
 returns-2 : tie.Need-returns-2
-returns-2 c = ?
+returns-2 c = if-false (c .before .if1 .left) _ (ap (λ (m : ℕ). c .before .before .args .held + m) (c .wide .ensures .0))
 
 pub held-after-spec : {M : Type 1} → statement M
-held-after-spec = tie.close (tie.spec wide-requires add-result returns returns-2)
+held-after-spec = tie.close (tie.spec (λ c κs. search needs) (λ c. search needs) (λ c. search needs) returns-2)

@@ -1,93 +1,44 @@
+-- `led`: none of the first j steps leads to c.
+use Prim.Native.Nat.{_-_, _≤_}
+use native.Mathlib.Omega.{arith}
+use mathlib.Core.Path.{_≡_, sym}
+use Rattle.laws.proofs.Says.{says-no, says-eq}
+use Rattle.board.specs.Inner.{markAt, stepAt}
+use Rattle.board.proofs.Passing.{leads-says, Unled, unled-more, unled-stop}
+use borrow.Author.Needs.{needs}
 use Rattle.board.proofs.points.led.Statement.{statement}
 use Rattle.board.proofs.points.led.Tie as tie
-use Rattle.board.proofs.points.led.Reads as reads
-use Rattle.board.proofs.points.led.Lts as lts
-use Rattle.fields.proofs.cast.wide.Reads as wide-reads
 
 abbrev Inv-loop : tie.InvT-loop
-Inv-loop board marks steps held c j₀ j = ?
+Inv-loop board marks steps held c j₀ j = (j ≤ held) × Unled (markAt board marks) (stepAt steps) j c
 
 abbrev μ-loop : tie.MeasureT-loop
-μ-loop board marks steps held c j₀ j = ?
+μ-loop board marks steps held c j₀ j = held - j
 
--- src/points.rt:59:5
 loop-holds : tie.Need-loop-holds Inv-loop μ-loop
-loop-holds c = ?
+loop-holds c = (omega arith, λ l. omega (arith, l .among))
 
--- src/points.rt:60:25
-mul-wide : tie.Need-mul-wide Inv-loop μ-loop
-mul-wide c = ?
-
--- src/points.rt:60:25
-element-copy-out-wide : tie.Need-element-copy-out-wide Inv-loop μ-loop
-element-copy-out-wide c = ?
-
--- src/points.rt:60:13
-wide-requires : tie.Need-wide-requires Inv-loop μ-loop
-wide-requires c κs = ?
-
--- src/points.rt:61:16
-mul-if1 : tie.Need-mul-if1 Inv-loop μ-loop
-mul-if1 c = ?
-
--- src/points.rt:62:13
 returns : tie.Need-returns Inv-loop μ-loop
-returns c = ?
+returns c =
+    let at-loop = c .before .before .before .before in
+    let read = c .before .wide .ensures .0 in
+    sym (says-no (leads-says _ _ _ _) (unled-stop _ _ _ _ _ (at-loop .before .pre .1 .1) (at-loop .loop .inv .1) (omega (arith, read))))
 
--- src/points.rt:64:27
-sub-if2 : tie.Need-sub-if2 Inv-loop μ-loop
-sub-if2 c = ?
-
--- src/points.rt:64:18
-add-if2 : tie.Need-add-if2 Inv-loop μ-loop
-add-if2 c = ?
-
--- src/points.rt:64:12
-mul-if2 : tie.Need-mul-if2 Inv-loop μ-loop
-mul-if2 c = ?
-
--- src/points.rt:64:12
-element-copy-out-if2 : tie.Need-element-copy-out-if2 Inv-loop μ-loop
-element-copy-out-if2 c = ?
-
--- src/points.rt:65:13
 returns-2 : tie.Need-returns-2 Inv-loop μ-loop
-returns-2 c = ?
+returns-2 c =
+    let read = c .before .before .before .wide .ensures .0 in
+    let mark = says-eq _ 1 .found (rw read at (c .if2 .taken)) in
+    sym (leads-says _ _ _ _ .found (record { index = c .before .before .before .before .before .before .loop .j; among = omega arith; tried = omega (arith, read); leaves = mark }))
 
--- src/points.rt:67:9
-add-j : tie.Need-add-j Inv-loop μ-loop
-add-j c = ?
-
--- src/points.rt:59:5
-loop-less : tie.Need-loop-less Inv-loop μ-loop
-loop-less c = ?
-
--- src/points.rt:59:5
 loop-again : tie.Need-loop-again Inv-loop μ-loop
-loop-again c = ?
+loop-again c =
+    let read = c .before .before .before .wide .ensures .0 in
+    (omega arith, unled-more _ _ _ _ (c .before .before .before .before .before .before .loop .inv .1) read (λ e. c .if2 .left (says-eq _ 1 .means e)))
 
--- src/points.rt:53:1
 returns-3 : tie.Need-returns-3 Inv-loop μ-loop
-returns-3 c = ?
+returns-3 c =
+    let end : c .before .loop .j ≡ c .before .before .args .held = omega arith in
+    sym (says-no (leads-says _ _ _ _) (rw end at (c .before .loop .inv .1)))
 
 pub led-spec : {M : Type 1} → statement M
-led-spec =
-    tie.close
-    (tie.spec
-    Inv-loop
-    μ-loop
-    loop-holds
-    mul-wide
-    element-copy-out-wide
-    wide-requires
-    mul-if1
-    returns
-    sub-if2
-    add-if2
-    mul-if2
-    element-copy-out-if2
-    returns-2
-    add-j
-    loop-less
-    loop-again
-    returns-3)
+led-spec = tie.close (tie.spec Inv-loop μ-loop loop-holds (λ c. omega arith) (λ c. omega arith) (λ c κs. search needs) (λ c. omega arith) returns (λ c. omega arith) (λ c. omega arith) (λ c. omega arith) (λ c. omega arith) returns-2 (λ c. omega arith) (λ c. omega arith) loop-again returns-3)

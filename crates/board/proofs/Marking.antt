@@ -11,10 +11,9 @@ use lib.Seq.{getD-set-same, getD-set-other}
 use Rattle.laws.specs.Inner.{Says}
 use Rattle.laws.proofs.Says.{says-false}
 use Rattle.laws.specs.Put.{put}
-use Rattle.laws.proofs.Put.{put-length}
 use Rattle.laws.proofs.Placed.{put-in, put-out, is-put, put-set}
 use Rattle.cutting.specs.Limits.{sideMax}
-use Rattle.board.specs.Inner.{places, entries, countOn, entryAt, markAt, bit, markCount, stepAt, markRow, isWithin, isSize, withSize, isPoint, reaches, leads, marksOf, Markable}
+use Rattle.board.specs.Inner.{countOn, entryAt, markAt, bit, markCount, stepAt, markRow, isWithin, isSize, withSize, isPoint, reaches, leads, marksOf, Markable}
 use Rattle.board.proofs.Marks.{markRow-length, markRow-at, markRow-same, markRow-set}
 use Rattle.board.proofs.Reaches.{reaches-least}
 use Rattle.board.proofs.Steps.{Stepped, steps-none}
@@ -24,6 +23,10 @@ use Rattle.board.proofs.Passing.{isWithin-says, isSize-other, isSize-ne
 pub bit-read : (b : Bool) {n : ℕ} → n ≡ bit b → eqb n 1 ≡ b
 bit-read true e = ap (λ (m : ℕ). eqb m 1) e
 bit-read false e = ap (λ (m : ℕ). eqb m 1) e
+
+bit-or : (b d : Bool) → cond b 1 (bit d) ≡ bit (b || d)
+bit-or true d = refl
+bit-or false d = refl
 
 -- A board with the marks of a test.
 unfoldable pub markedBy : List ℕ → ℕ → (ℕ → Bool) → List ℕ
@@ -36,18 +39,14 @@ marking-same board marks test other e same = e ∙ ap (put board marks) (markRow
 
 module _ {board : List ℕ} {sizes marks side : ℕ} (ready : Markable board sizes marks side) (test : ℕ → Bool) where
   row-fits : marks + length (markRow test) ≤ length board
-  row-fits = omega (arith, markRow-length test, ready .room .within, ready .long)
-
-  pub marked-length : length (markedBy board marks test) ≡ places
-  unfolding markedBy
-  marked-length = put-length board marks (markRow test) row-fits ∙ ready .long
+  row-fits = omega (arith, markRow-length test, ready .room, ready .long)
 
   -- What stands before the marks stays.
-  pub marked-before : (i : ℕ) → i < marks → getD (markedBy board marks test) i 0 ≡ getD board i 0
+  marked-before : (i : ℕ) → i < marks → getD (markedBy board marks test) i 0 ≡ getD board i 0
   unfolding markedBy
   marked-before i h = put-out board marks (markRow test) 0 row-fits i (inl h)
 
-  pub marked-at : (c : ℕ) → c ≤ sideMax → getD (markedBy board marks test) (marks + c) 0 ≡ bit (test c)
+  marked-at : (c : ℕ) → c ≤ sideMax → getD (markedBy board marks test) (marks + c) 0 ≡ bit (test c)
   unfolding markedBy
   marked-at c h = put-in board marks (markRow test) 0 row-fits c (omega (arith, markRow-length test)) ∙ markRow-at test c h
 
@@ -59,12 +58,19 @@ module _ {board : List ℕ} {sizes marks side : ℕ} (ready : Markable board siz
       ready .none .zeros c b ∙ sym (markRow-at test c (omega arith) ∙ ap bit (never c)))
       (λ i h. refl)
 
-  pub marking-set : (other : ℕ → Bool) {now : List ℕ} (at : ℕ) {v : ℕ} → at ≤ sideMax → now ≡ markedBy board marks test
+  -- One mark set anew, for a test that differs only there.
+  marking-set : (other : ℕ → Bool) {now : List ℕ} (at : ℕ) {v : ℕ} → at ≤ sideMax → now ≡ markedBy board marks test
       → ((c : ℕ) → c ≢ at → test c ≡ other c) → v ≡ bit (other at) → set now (marks + at) v ≡ markedBy board marks other
   unfolding markedBy
   marking-set other {now} at {v} h e same f =
       ap (λ (l : List ℕ). set l (marks + at) v) e
       ∙ (put-set board marks (markRow test) 0 row-fits at v (omega (arith, markRow-length test)) ∙ ap (put board marks) (markRow-set test other at h same f))
+
+-- The pass at `last`: the marks, and the steps so far.
+pub record Passing (board : List ℕ) (sizes marks side last : ℕ) (now steps : List ℕ) (held : ℕ) : Type 0 where
+  pub marked : now ≡ markedBy board marks (passed (entryAt board sizes) (countOn board) side last)
+  pub stepped : Stepped (IsReached (entryAt board sizes) (countOn board)) last (stepAt steps) held
+  pub long : length steps ≡ markCount
 
 module _ {board : List ℕ} {sizes marks side : ℕ} (ready : Markable board sizes marks side) where
   abbrev size : ℕ → ℕ
@@ -80,10 +86,7 @@ module _ {board : List ℕ} {sizes marks side : ℕ} (ready : Markable board siz
   sizes-more {now} {s} k h e f = by (isWithin side s) (isWithin-says side s) (ap (isWithin side) is)
     where
       is : s ≡ size k
-      is =
-          f
-          ∙ (ap (λ (l : List ℕ). entryAt l sizes k) e
-          ∙ marked-before ready (isSize size k side) (sizes + k) (omega (arith, ready .few, ready .room .apart)))
+      is = f ∙ (ap (λ (l : List ℕ). entryAt l sizes k) e ∙ marked-before ready (isSize size k side) (sizes + k) (omega (arith, ready .few, ready .apart)))
 
       by : (b : Bool) → Says b ((1 ≤ s) × (s ≤ side)) → b ≡ isWithin side (size k)
           → cond b (set now (marks + s) 1) now ≡ markedBy board marks (isSize size (k + 1) side)
@@ -95,64 +98,26 @@ module _ {board : List ℕ} {sizes marks side : ℕ} (ready : Markable board siz
           marking-same board marks (isSize size k side) (isSize size (k + 1) side) e
           (λ c. isSize-other size side k c (λ i r. says-false w refl (subst (λ (m : ℕ). (1 ≤ m) × (m ≤ side)) (i ∙ sym is) r)))
 
--- The pass at `last`: the marks, and the steps so far.
-pub record Passing (board : List ℕ) (sizes marks side last : ℕ) (now steps : List ℕ) (held : ℕ) : Type 0 where
-  pub marked : now ≡ markedBy board marks (passed (entryAt board sizes) (countOn board) side last)
-  pub stepped : Stepped (IsReached (entryAt board sizes) (countOn board)) last (stepAt steps) held
-  pub long : length steps ≡ markCount
-
-module _ {board : List ℕ} {sizes marks side : ℕ} (ready : Markable board sizes marks side) where
-  pub passing-start : {now steps : List ℕ} → now ≡ markedBy board marks (isSize (size ready) (n ready) side) → length steps ≡ markCount
+  passing-start : {now steps : List ℕ} → now ≡ markedBy board marks (isSize size n side) → length steps ≡ markCount
       → Passing board sizes marks side 0 now steps 0
   passing-start e l =
       record {
-        marked = marking-same board marks (isSize (size ready) (n ready) side) (passed (size ready) (n ready) side 0) e (passed-none (size ready) (n ready) side);
-        stepped = steps-none (IsReached (size ready) (n ready)) (reaches-least (size ready) (n ready)) (reaches-add (size ready) (n ready)) _;
+        marked = marking-same board marks (isSize size n side) (passed size n side 0) e (passed-none size n side);
+        stepped = steps-none (IsReached size n) (reaches-least size n) (reaches-add size n) _;
         long = l;
       }
 
   pub passing-end : {last held : ℕ} {now steps : List ℕ} → Passing board sizes marks side last now steps held → last ≡ side
-      → now ≡ put board marks (marksOf (size ready) (n ready) side)
+      → now ≡ put board marks (marksOf size n side)
   unfolding markedBy marksOf markRow
-  passing-end p q =
-      marking-same board marks (passed (size ready) (n ready) side side) (isPoint (size ready) (n ready) side) (rw q at (p .marked))
-      (passed-all (size ready) (n ready) side)
+  passing-end p q = marking-same board marks (passed size n side side) (isPoint size n side) (rw q at (p .marked)) (passed-all size n side)
 
-  -- The code's last + 1.
-  module _ {last held : ℕ} {now steps : List ℕ} (p : Passing board sizes marks side last now steps held) (h : last < side) where
-    abbrev before : ℕ → Bool
-    before = passed (size ready) (n ready) side last
+  module _ {last held : ℕ} {now steps : List ℕ} (p : Passing board sizes marks side last now steps held) where
+    mark-is : (m : ℕ) → m ≤ sideMax → getD now (marks + m) 0 ≡ bit (passed size n side last m)
+    mark-is m h = ap (λ (b : List ℕ). getD b (marks + m) 0) (p .marked) ∙ marked-at ready (passed size n side last) m h
 
-    abbrev after : ℕ → Bool
-    after = passed (size ready) (n ready) side (last + 1)
-
-    mark-is : (m : ℕ) → m ≤ sideMax → getD now (marks + m) 0 ≡ bit (before m)
-    mark-is m l = ap (λ (b : List ℕ). getD b (marks + m) 0) (p .marked) ∙ marked-at ready before m l
-
-    made : (m : ℕ) → m ≤ last → markAt now marks m ≡ reaches (size ready) (n ready) m
-    made m l = bit-read (before m) (mark-is m (omega (arith, ready .within))) ∙ passed-upto (size ready) (n ready) side last m l
-
-    pub passing-more : {b : Bool} {own mark new held' : ℕ} → own ≡ getD now (marks + (last + 1)) 0
-        → b ≡ leads (markAt now marks) (stepAt steps) held (last + 1) → mark ≡ cond b 1 own → new ≡ last + 1 → held' ≡ cond b held (held + own)
-        → Passing board sizes marks side (last + 1) (set now (marks + (last + 1)) mark) (set steps held new) held'
-    passing-more {b} {own} {mark} {new} {held'} o l m w g =
-        record {
-          marked =
-              marking-set ready before after (last + 1) (omega (arith, ready .within)) (p .marked) (passed-other (size ready) (n ready) side last)
-              (m ∙ (ap (cond b 1) is ∙ (bit-or b (before (last + 1)) ∙ ap bit (passed-more (size ready) (n ready) side h (p .stepped) made l refl))));
-          stepped =
-              steps-more (size ready) (n ready) side h (p .stepped) made l refl (λ j i. getD-set-other steps held j new 0 (λ e. omega arith))
-              (getD-set-same steps held new 0 (omega (arith, p .long, p .stepped .few, ready .within)) ∙ w)
-              (g ∙ ap (λ (m : ℕ). cond b held (held + m)) is);
-          long = length-set steps held new ∙ p .long;
-        }
-      where
-        is : own ≡ bit (before (last + 1))
-        is = o ∙ mark-is (last + 1) (omega (arith, ready .within))
-
-        bit-or : (b d : Bool) → cond b 1 (bit d) ≡ bit (b || d)
-        bit-or true d = refl
-        bit-or false d = refl
+    made : last ≤ side → (m : ℕ) → m ≤ last → markAt now marks m ≡ reaches size n m
+    made h m l = bit-read (passed size n side last m) (mark-is m (omega (arith, ready .within))) ∙ passed-upto size n side last m l
 
 -- The loop knows the board as it was when the sizes had been marked: the pass at `last`, from whichever board that was.
 pub record Passes (sized : List ℕ) (sizes marks side last : ℕ) (now steps : List ℕ) (held : ℕ) : Type 0 where
@@ -162,8 +127,34 @@ pub record Passes (sized : List ℕ) (sizes marks side last : ℕ) (now steps : 
 pub passes-start : {sized steps : List ℕ} {sizes marks side : ℕ} → length steps ≡ markCount → Passes sized sizes marks side 0 sized steps 0
 passes-start l = record { from = λ board ready e. passing-start ready e l }
 
-pub passes-more : {sized now steps : List ℕ} {sizes marks side last held : ℕ} → Passes sized sizes marks side last now steps held → last < side
-    → {b : Bool} {own mark new held' : ℕ} → own ≡ getD now (marks + (last + 1)) 0
-    → b ≡ leads (markAt now marks) (stepAt steps) held (last + 1) → mark ≡ cond b 1 own → new ≡ last + 1 → held' ≡ cond b held (held + own)
-    → Passes sized sizes marks side (last + 1) (set now (marks + (last + 1)) mark) (set steps held new) held'
-passes-more p h o l m w g = record { from = λ board ready e. passing-more ready (p .from board ready e) h o l m w g }
+-- One turn, with the code's last + 1: `led` is whether a step leads there, `own` the mark so far.
+module _ {sizes marks side last held : ℕ} {now steps : List ℕ} {led : Bool} {own mark new held' : ℕ} (h : last < side) (was : own ≡ getD now (marks + (last + 1)) 0)
+    (search : led ≡ leads (markAt now marks) (stepAt steps) held (last + 1)) (becomes : mark ≡ cond led 1 own) (noted : new ≡ last + 1)
+    (count : held' ≡ cond led held (held + own)) where
+  passing-more : {board : List ℕ} → Markable board sizes marks side → Passing board sizes marks side last now steps held
+      → Passing board sizes marks side (last + 1) (set now (marks + (last + 1)) mark) (set steps held new) held'
+  passing-more {board} ready p =
+      record {
+        marked =
+            marking-set ready (passed s k side last) (passed s k side (last + 1)) (last + 1) (omega (arith, ready .within)) (p .marked) (passed-other s k side last)
+            (becomes
+            ∙ (ap (cond led 1) is ∙ (bit-or led _ ∙ ap bit (passed-more s k side h (p .stepped) (made ready p (omega arith)) search refl))));
+        stepped =
+            steps-more s k side h (p .stepped) (made ready p (omega arith)) search refl (λ j i. getD-set-other steps held j new 0 (λ e. omega arith))
+            (getD-set-same steps held new 0 (omega (arith, p .long, p .stepped .few, ready .within)) ∙ noted)
+            (count ∙ ap (λ (m : ℕ). cond led held (held + m)) is);
+        long = length-set steps held new ∙ p .long;
+      }
+    where
+      s : ℕ → ℕ
+      s = size ready
+
+      k : ℕ
+      k = n ready
+
+      is : own ≡ bit (passed s k side last (last + 1))
+      is = was ∙ mark-is ready p (last + 1) (omega (arith, ready .within))
+
+  pub passes-more : {sized : List ℕ} → Passes sized sizes marks side last now steps held
+      → Passes sized sizes marks side (last + 1) (set now (marks + (last + 1)) mark) (set steps held new) held'
+  passes-more p = record { from = λ board ready e. passing-more ready (p .from board ready e) }

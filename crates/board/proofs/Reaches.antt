@@ -16,48 +16,11 @@ use Rattle.laws.proofs.Order.{le-or-lt}
 use Rattle.cutting.specs.Points.{Sum, one, more}
 use Rattle.board.specs.Inner.{Size, makes, someMakes, reachesUpTo, reaches}
 
--- A smaller size asks for what it leaves of c, and any other is c or makes nothing.
-pub makes-smaller : (made : ℕ → Bool) (s c : ℕ) → s < c → makes made s c ≡ made (c - s)
-unfolding makes
-makes-smaller made s c h = rw (says-no (says-eq s c) (λ e. omega arith), says-lt s c .found h)
-
-pub makes-alone : (made : ℕ → Bool) (s c : ℕ) → c ≤ s → makes made s c ≡ eqb s c
-unfolding makes
-makes-alone made s c h = rw (says-no (says-lt s c) (λ l. omega arith)) (or-false (eqb s c))
-  where
-    or-false : (b : Bool) → b || false ≡ b
-    or-false true = refl
-    or-false false = refl
-
--- A size makes c from what is made up to c: two tests that agree there are one.
-pub makes-same : (made other : ℕ → Bool) (s c : ℕ) → ((m : ℕ) → m ≤ c → made m ≡ other m) → makes made s c ≡ makes other s c
-unfolding makes
-makes-same made other s c h = ap (λ (b : Bool). eqb s c || (ltb s c && b)) (h (c - s) (omega arith))
-
-pub someMakes-same : (made other : ℕ → Bool) (size : ℕ → ℕ) (n c : ℕ) → ((m : ℕ) → m ≤ c → made m ≡ other m)
-    → someMakes made size n c ≡ someMakes other size n c
-unfolding someMakes
-someMakes-same made other size n c h = anyBelow-same _ _ n (λ k b. makes-same made other (size k) c h)
-
 -- Only the first n sizes count.
 pub someMakes-sizes : (made : ℕ → Bool) (size other : ℕ → ℕ) (n c : ℕ) → ((k : ℕ) → k < n → size k ≡ other k)
     → someMakes made size n c ≡ someMakes made other n c
 unfolding someMakes
 someMakes-sizes made size other n c h = anyBelow-same _ _ n (λ k b. ap (λ (s : ℕ). makes made s c) (h k b))
-
--- What a size makes, known by an answer that was given of it when it was read.
-pub makes-read : (made : ℕ → Bool) (c : ℕ) {s read : ℕ} {answer b : Bool} → read ≡ s → answer ≡ makes made read c → answer ≡ b → makes made s c ≡ b
-makes-read made c e h t = cc
-
-pub someMakes-none : (made : ℕ → Bool) (size : ℕ → ℕ) (c : ℕ) → someMakes made size 0 c ≡ false
-unfolding someMakes
-someMakes-none made size c = anyBelow-none (λ k. makes made (size k) c)
-
--- The code's n + 1.
-pub someMakes-more : (made : ℕ → Bool) (size : ℕ → ℕ) (n c : ℕ) → someMakes made size n c ≡ false → makes made (size n) c ≡ false
-    → someMakes made size (n + 1) c ≡ false
-unfolding someMakes
-someMakes-more made size n c e h = anyBelow-more (λ k. makes made (size k) c) n ∙ rw (e, h)
 
 -- 0 is no point (rule 3.3).
 pub reaches-zero : (size : ℕ → ℕ) (n : ℕ) → reaches size n 0 ≡ false
@@ -94,19 +57,6 @@ module _ (size : ℕ → ℕ) (n : ℕ) where
   upTo-next : (c : ℕ) → reaches size n (suc c) ≡ someMakes (λ m. getD (reachesUpTo size n c) m false) size n (suc c)
   unfolding reaches reachesUpTo
   upTo-next c = getD-at (reachesUpTo size n c) _ [] false (suc c) (upTo-length c)
-
-  -- One number more, from any marks that are right up to c and not set at the next.
-  pub reaches-next : (made : ℕ → Bool) (c : ℕ) → ((m : ℕ) → m ≤ c → made m ≡ reaches size n m) → made (suc c) ≡ false
-      → reaches size n (suc c) ≡ someMakes made size n (suc c)
-  reaches-next made c h e =
-      upTo-next c
-      ∙ someMakes-same
-      (λ m. getD (reachesUpTo size n c) m false)
-      made
-      size
-      n
-      (suc c)
-      (λ m l. ⊎-elim (λ q. upTo-past c m (omega arith) ∙ sym (ap made q ∙ e)) (λ b. upTo-at c m (omega arith) ∙ sym (h m (omega arith))) (eq-or-lt-of-le l))
 
 -- A size makes c exactly when it is c, or is smaller and what it leaves is made.
 pub makes-says : (made : ℕ → Bool) (s c : ℕ) → Says (makes made s c) ((s ≡ c) ⊎ ((s < c) × (made (c - s) ≡ true)))

@@ -215,20 +215,15 @@ pub record Hold (rows : Rows) (pieces : List Piece) (a b : ℕ) : Type 0 where
 
 -- What the marking asks of a board.
 
--- Sizes and marks have their room on the board, the sizes before the marks.
-pub record MarkRoom (sizes marks : ℕ) : Type 0 where
-  pub after : widths ≤ sizes
-  pub apart : sizes + entries ≤ marks
-  pub within : marks + markCount ≤ places
-
 -- There is no mark yet.
 pub record Unmarked (board : List ℕ) (marks : ℕ) : Type 0 where
   pub zeros : (c : ℕ) → c < markCount → getD board (marks + c) 0 ≡ 0
 
--- A board that can be marked from its sizes, up to a side.
+-- Up to a side, from the sizes, which stand before the marks.
 pub record Markable (board : List ℕ) (sizes marks side : ℕ) : Type 0 where
-  pub room : MarkRoom sizes marks
   pub few : countOn board ≤ entries
+  pub apart : sizes + entries ≤ marks
+  pub room : marks + markCount ≤ places
   pub long : length board ≡ places
   pub within : side ≤ sideMax
   pub none : Unmarked board marks

@@ -3,7 +3,6 @@
 ghost use mathlib.Core.Bool.{cond};
 ghost use mathlib.Core.Path.{_≡_};
 ghost use Prim.Native.Nat.{_+_, _≤_};
-ghost use lib.ListN.{length};
 ghost use Rattle.laws.specs.Put.{put};
 ghost use Rattle.cutting.specs.Limits.{sideMax};
 ghost use Rattle.board.specs.Inner.{places, markCount, markAt, entryAt, stepAt, countOn, markRow, isSize, withSize, leads, Rising, marksOf, Markable, Pieced, withPoints};
@@ -39,7 +38,6 @@ fn mark_size(board: &mut Board, marks: usize, size: usize, side: usize)
 // Marks the sizes themselves.
 fn mark_sizes(board: &mut Board, sizes: usize, marks: usize, side: usize)
     requires { ⌜ Markable (now board) sizes marks side ⌝ }
-    ensures { λ _. ⌜ length (now (board .exit)) ≡ places ⌝ }
     ensures { λ _. ⌜ now (board .exit) ≡ put (now (board .entry)) marks (markRow (isSize (entryAt (now (board .entry)) sizes) (countOn (now (board .entry))) side)) ⌝ }
 {
     let n = count(board);
@@ -69,14 +67,14 @@ fn led(board: &Board, marks: usize, steps: &Steps, held: usize, c: usize) -> boo
     false
 }
 
-// The mark of a number that a step leads to, or that has the mark of a size.
+// The mark of a number: a step leads to it, or it has its own as a size.
 fn mark_of(led: bool, own: u16) -> u16
     ensures { λ r. ⌜ r ≡ cond led 1 own ⌝ }
 {
     if led { 1 } else { own }
 }
 
-// How many steps there are after a number: a size that no step leads to is one more.
+// How many steps there are after a number: a size that no step leads to is one.
 fn held_after(held: usize, led: bool, own: u16) -> usize
     requires { ⌜ held ≤ sideMax ⌝ }
     ensures { λ r. ⌜ r ≡ cond led held (held + own) ⌝ }
@@ -99,7 +97,7 @@ fn mark(board: &mut Board, sizes: usize, marks: usize, side: usize)
         let own = board[marks + last];
         let by_step = led(board, marks, &steps, held, last);
         board[marks + last] = mark_of(by_step, own);
-        // Beyond the row of steps unless it is one.
+        // Behind the last step, where it counts only if it is one.
         steps[held] = narrow(last);
         held = held_after(held, by_step, own);
     }

@@ -22,22 +22,22 @@ unfolding markedBy
 led-requires c κs =
     let at-loop = c .before .before .before .before in
     let ready = at-loop .before .before .before .pre in
-    ((ready .room .within, omega arith), (omega arith, at-loop .loop .inv .2 .from _ ready (at-loop .before .mark-sizes .ensures .1) .stepped .rising))
+    ((ready .room, omega arith), (omega arith, at-loop .loop .inv .2 .from _ ready (at-loop .before .mark-sizes .ensures) .stepped .rising))
 
 loop-again : tie.Need-loop-again Inv-loop μ-loop
 unfolding markedBy
 loop-again c =
     let at-loop = c .before .before .before .before .before .before .before .before in
-    let further = passes-more (at-loop .loop .inv .2) (omega arith) refl (c .before .before .before .led .ensures) (c .before .before .mark-of .ensures)
-    (c .before .narrow .ensures) (c .held-after .ensures) in
-    (omega arith, further .from _ (at-loop .before .before .before .pre) (at-loop .before .mark-sizes .ensures .1) .stepped .few, further)
+    let further = passes-more (omega arith) refl (c .before .before .before .led .ensures) (c .before .before .mark-of .ensures) (c .before .narrow .ensures)
+    (c .held-after .ensures) (at-loop .loop .inv .2) in
+    (omega arith, further .from _ (at-loop .before .before .before .pre) (at-loop .before .mark-sizes .ensures) .stepped .few, further)
 
 returns : tie.Need-returns Inv-loop μ-loop
 unfolding markedBy
 returns c =
     let at-loop = c .before in
     let ready = at-loop .before .before .before .pre in
-    passing-end ready (at-loop .loop .inv .2 .from _ ready (at-loop .before .mark-sizes .ensures .1)) (omega arith)
+    passing-end ready (at-loop .loop .inv .2 .from _ ready (at-loop .before .mark-sizes .ensures)) (omega arith)
 
 pub mark-spec : {M : Type 1} → statement M
 mark-spec = tie.close (tie.spec Inv-loop μ-loop (λ c κs. c .before .pre) loop-holds (λ c. omega arith) (λ c. omega arith) (λ c. omega arith) (λ c. omega arith) led-requires (λ c κs. search needs) (λ c. omega arith) (λ c. omega arith) (λ c. omega arith) (λ c κs. omega arith) (λ c. omega arith) (λ c. omega arith) (λ c κs. omega arith) (λ c. omega arith) loop-again returns)

@@ -1,11 +1,10 @@
 -- `mark_sizes`: the first k sizes are marked.
 use Prim.Native.Nat.{_-_, _≤_}
 use native.Mathlib.Omega.{arith}
-use mathlib.Core.Path.{_≡_, ap, _∙_}
-use lib.ListN.{length}
+use mathlib.Core.Path.{_≡_, _∙_}
 use Rattle.board.specs.Inner.{countOn, entryAt, isSize}
 use Rattle.board.proofs.Passing.{isSize-none}
-use Rattle.board.proofs.Marking.{markedBy, marked-length, marking-none, sizes-more}
+use Rattle.board.proofs.Marking.{markedBy, marking-none, sizes-more}
 use borrow.Author.Needs.{needs}
 use Rattle.board.proofs.points.mark_sizes.Statement.{statement}
 use Rattle.board.proofs.points.mark_sizes.Tie as tie
@@ -19,9 +18,6 @@ abbrev μ-loop : tie.MeasureT-loop
 loop-holds : tie.Need-loop-holds Inv-loop μ-loop
 loop-holds c = (omega arith, marking-none (c .before .before .pre) _ (isSize-none _ _))
 
-mark-size-requires : tie.Need-mark-size-requires Inv-loop μ-loop
-mark-size-requires c κs = let ready = c .before .before .before .before .before .before .before .pre in (ready .room .within, ready .within)
-
 loop-again : tie.Need-loop-again Inv-loop μ-loop
 loop-again c =
     let at-loop = c .before .before .before .before .before in
@@ -33,8 +29,7 @@ unfolding markedBy
 returns c =
     let start = c .before .before .before .before in
     let end : c .before .loop .k ≡ countOn (start .args .board .now) = omega arith in
-    let all = rw end at (c .before .loop .inv .1) in
-    (ap length all ∙ marked-length (start .pre) _, all)
+    rw end at (c .before .loop .inv .1)
 
 pub mark-sizes-spec : {M : Type 1} → statement M
-mark-sizes-spec = tie.close (tie.spec Inv-loop μ-loop (λ c κs. search needs) loop-holds (λ c. omega arith) (λ c. omega arith) (λ c. omega arith) (λ c κs. search needs) mark-size-requires (λ c. omega arith) (λ c. omega arith) loop-again returns)
+mark-sizes-spec = tie.close (tie.spec Inv-loop μ-loop (λ c κs. search needs) loop-holds (λ c. omega arith) (λ c. omega arith) (λ c. omega arith) (λ c κs. search needs) (λ c κs. omega arith) (λ c. omega arith) (λ c. omega arith) loop-again returns)

@@ -8,7 +8,7 @@ use Rattle.board.proofs.points.set_points.Tie as tie
 mark-requires : tie.Need-mark-requires
 mark-requires c κs =
     let ready = c .before .before .before .before .before .pre in
-    record { room = record { after = omega arith; apart = omega arith; within = omega arith }; few = ready .few; long = ready .long; within = omega (arith, ready .wide); none = ready .noneAcross }
+    record { few = ready .few; apart = omega arith; room = omega arith; long = ready .long; within = omega (arith, ready .wide); none = ready .noneAcross }
 
 mark-requires-2 : tie.Need-mark-requires-2
 mark-requires-2 c κs =
@@ -17,8 +17,9 @@ mark-requires-2 c κs =
     let across = c .before .mark .ensures in
     let wide = at-width .width .ensures in
     record {
-      room = record { after = omega arith; apart = omega arith; within = omega arith };
       few = omega (arith, half-count _ ready wide across, ready .few);
+      apart = omega arith;
+      room = omega arith;
       long = half-length _ ready wide across;
       within = omega (arith, ready .high);
       none = half-unmarked _ ready wide across;

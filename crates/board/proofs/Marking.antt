@@ -15,9 +15,8 @@ use Rattle.laws.proofs.Placed.{put-in, put-out, is-put, put-set}
 use Rattle.cutting.specs.Limits.{sideMax}
 use Rattle.board.specs.Inner.{countOn, entryAt, markAt, bit, markCount, stepAt, markRow, isWithin, isSize, withSize, isPoint, reaches, leads, marksOf, Markable}
 use Rattle.board.proofs.Marks.{markRow-length, markRow-at, markRow-same, markRow-set}
-use Rattle.board.proofs.Reaches.{reaches-least}
-use Rattle.board.proofs.Steps.{Stepped, steps-none}
-use Rattle.board.proofs.Passing.{isWithin-says, isSize-other, isSize-new, IsReached, reaches-add, passed, passed-none, passed-all, passed-upto, passed-other, passed-more, steps-more}
+use Rattle.board.proofs.Steps.{Stepped, steps-none, IsReached, reaches-closed}
+use Rattle.board.proofs.Passing.{isWithin-says, isSize-other, isSize-new, passed, passed-none, passed-all, passed-upto, passed-other, passed-more, steps-more}
 
 -- A mark that was written is read as it was meant.
 pub bit-read : (b : Bool) {n : ℕ} → n ≡ bit b → eqb n 1 ≡ b
@@ -103,7 +102,7 @@ module _ {board : List ℕ} {sizes marks side : ℕ} (ready : Markable board siz
   passing-start e l =
       record {
         marked = marking-same board marks (isSize size n side) (passed size n side 0) e (passed-none size n side);
-        stepped = steps-none (IsReached size n) (reaches-least size n) (reaches-add size n) _;
+        stepped = steps-none (reaches-closed size n) _;
         long = l;
       }
 

@@ -29,7 +29,7 @@ module _ (test : ℕ → Bool) where
   markRow-at c h = byIndex-at (λ c. bit (test c)) markCount c 0 (omega arith)
 
   -- A row with these marks is it.
-  pub is-markRow : (l : List ℕ) → length l ≡ markCount → ((c : ℕ) → c ≤ sideMax → getD l c 0 ≡ bit (test c)) → l ≡ markRow test
+  is-markRow : (l : List ℕ) → length l ≡ markCount → ((c : ℕ) → c ≤ sideMax → getD l c 0 ≡ bit (test c)) → l ≡ markRow test
   unfolding markRow
   is-markRow l long at = is-byIndex (λ c. bit (test c)) markCount l 0 long (λ c h. at c (omega arith))
 

@@ -1,20 +1,19 @@
 -- The pass over the numbers of a side: up to `last` each has the mark of whether it is reached, and beyond it the mark of whether it is a size.
-use Prim.Native.Nat.{ℕ, zero, suc, _+_, _-_, _≤_, _<_}
+use Prim.Native.Nat.{ℕ, _+_, _-_, _≤_, _<_}
 use mathlib.Core.Bool.{Bool, true, false, cond, _&&_, _||_}
 use mathlib.Core.Path.{_≡_, refl, sym, ap, subst, _∙_}
 use mathlib.Core.Logic.{_⊎_, inl, inr, ⊎-elim, _≢_}
 use native.Mathlib.Omega.{arith}
 use native.Mathlib.Nat.{add-zero, eq-or-lt-of-le}
 use lib.Dec.{leb, eqb}
-use Rattle.laws.specs.Inner.{Says, anyBelow}
+use Rattle.laws.specs.Inner.{Says}
 use Rattle.laws.proofs.Order.{le-or-lt, last-or-below}
-use Rattle.laws.proofs.Says.{true≢false, says-no, says-false, says-iff, says-le, says-eq, says-and, says-or, says-same}
-use Rattle.laws.proofs.Below.{anyBelow-none, anyBelow-more, anyBelow-says}
-use Rattle.cutting.specs.Points.{Sum, one, more}
+use Rattle.laws.proofs.Says.{says-no, says-false, says-iff, says-le, says-eq, says-and, says-or, says-same}
+use Rattle.laws.proofs.Below.{anyBelow-says}
 use Rattle.board.specs.Inner.{Size, reaches, isPoint, bit, isWithin, isSize, triedFrom, Rising, leads}
-use Rattle.board.proofs.Reaches.{Reached, alone, onTop, reaches-least, reaches-own, reaches-says}
+use Rattle.board.proofs.Reaches.{reaches-least}
 use Rattle.board.proofs.Marks.{isPoint-says}
-use Rattle.board.proofs.Steps.{Led, Parts, Stepped, next-in, steps-kept, steps-stay, steps-grow}
+use Rattle.board.proofs.Steps.{Led, Stepped, steps-stay, steps-grow, steps-kept, IsReached, reaches-closed, size-reached, reached-next}
 
 -- The search among the steps: none of the first, one more, and that it may stop at a step that is too large.
 module _ (made : ℕ → Bool) (step : ℕ → ℕ) where
@@ -85,33 +84,6 @@ module _ (size : ℕ → ℕ) (side : ℕ) where
       says-same (isSize-says (n + 1) (size n))
       (says-iff ((λ h. (h, record { index = n; among = omega arith; equal = refl })), (λ s. s .0)) (isWithin-says side (size n)))
 
--- A number beside the sums: two of them add up to one.
-sum-add : {S : ℕ → Type 0} {t u : ℕ} → Sum S t → Sum S u → Sum S (t + u)
-sum-add (one z) b = more z b refl
-sum-add {t = t} {u = u} (more {s} {r} z rest q) b = let e : t + u ≡ s + (r + u) = omega arith in more z (sum-add rest b) e
-
-module _ (size : ℕ → ℕ) (n : ℕ) where
-  abbrev pub IsReached : ℕ → Type 0
-  IsReached c = reaches size n c ≡ true
-
-  pub reaches-add : (s r : ℕ) → IsReached s → IsReached r → IsReached (s + r)
-  reaches-add s r x y =
-      let a = reaches-least size n s x in
-      let b = reaches-least size n r y in
-      reaches-says size n (s + r) (omega arith) .found (sum-add (reaches-says size n s a .means x) (reaches-says size n r b .means y))
-
-  size-reached : (c : ℕ) → 1 ≤ c → Size size n c → IsReached c
-  size-reached c h s = reaches-says size n c h .found (one s)
-
-  -- What is reached is a size or a sum of two that are.
-  reached-parts : (c : ℕ) → IsReached c → Size size n c ⊎ Parts IsReached c
-  reached-parts c x = by (reaches-own size n c (reaches-least size n c x) .means x)
-    where
-      by : Reached size n c → Size size n c ⊎ Parts IsReached c
-      by (alone {k} b e) = inl (record { index = k; among = b; equal = e })
-      by (onTop {k} {r} b l e t) =
-          inr (record { one = size k; two = r; sum = e; inOne = size-reached (size k) (omega arith) (record { index = k; among = b; equal = refl }); inTwo = t })
-
 -- The marks after the number `last`.
 module _ (size : ℕ → ℕ) (n side : ℕ) where
   unfoldable pub passed : ℕ → ℕ → Bool
@@ -144,7 +116,7 @@ module _ (size : ℕ → ℕ) (n side : ℕ) where
   passed-upto last c h =
       says-same (passed-says last c) (record { means = λ e. inl (h, e); found = ⊎-elim (λ t. t .1) (own-reached c) })
 
-  pub passed-next : (last : ℕ) → passed last (last + 1) ≡ isSize size n side (last + 1)
+  passed-next : (last : ℕ) → passed last (last + 1) ≡ isSize size n side (last + 1)
   passed-next last =
       says-same (passed-says last (last + 1))
       (says-iff (inr, ⊎-elim (λ h. absurd (omega (arith, h .0))) (λ o. o)) (isSize-says size side n (last + 1)))
@@ -157,12 +129,6 @@ module _ (size : ℕ → ℕ) (n side : ℕ) where
   -- One number further: b is whether a step leads to it, and `own` its mark so far.
   module _ {last held : ℕ} {made : ℕ → Bool} {step : ℕ → ℕ} {b own : Bool} (h : last < side) (steps : Stepped (IsReached size n) last step held)
       (same : (m : ℕ) → m ≤ last → made m ≡ reaches size n m) (search : b ≡ leads made step held (last + 1)) (mark : own ≡ passed last (last + 1)) where
-    abbrev least : (t : ℕ) → IsReached size n t → 1 ≤ t
-    least = reaches-least size n
-
-    abbrev add : (s r : ℕ) → IsReached size n s → IsReached size n r → IsReached size n (s + r)
-    add = reaches-add size n
-
     led-says : Says b (Led (IsReached size n) step held (last + 1))
     led-says = subst (λ (x : Bool). Says x (Led (IsReached size n) step held (last + 1))) (sym search) (says-iff (to, from) (leads-says made step held (last + 1)))
       where
@@ -181,10 +147,7 @@ module _ (size : ℕ → ℕ) (n side : ℕ) where
         (says-iff ((λ o. o .1), (λ s. ((omega arith, omega arith), s))) (isSize-says size side n (last + 1)))
 
     reached-says : Says (b || own) (IsReached size n (last + 1))
-    reached-says =
-        says-iff
-        (next-in (IsReached size n) (reaches-least size n) (reaches-add size n) steps (reached-parts size n (last + 1)) (size-reached size n (last + 1) (omega arith)))
-        (says-or led-says own-says)
+    reached-says = says-iff (reached-next size n steps) (says-or led-says own-says)
 
     pub passed-more : b || own ≡ passed (last + 1) (last + 1)
     passed-more = says-same reached-says (record { means = λ e. e; found = λ e. e }) ∙ sym (passed-upto (last + 1) (last + 1) (omega arith))
@@ -198,9 +161,9 @@ module _ (size : ℕ → ℕ) (n side : ℕ) where
         R = IsReached size n
 
         stay : (R (last + 1) → Led R step held (last + 1)) → Stepped R (last + 1) other held
-        stay lead = steps-kept R least add (steps-stay R least add steps lead) keeps
+        stay lead = steps-kept (steps-stay (reaches-closed size n) steps lead) keeps
 
         by : (b own : Bool) → Says b (Led R step held (last + 1)) → Says (b || own) (R (last + 1)) → Stepped R (last + 1) other (cond b held (held + bit own))
         by true own led here = stay (λ _. led .means refl)
-        by false true led here = steps-grow R least add (steps-kept R least add steps keeps) new (here .means refl)
+        by false true led here = steps-grow (steps-kept steps keeps) new (here .means refl)
         by false false led here = rw add-zero (stay (λ r. absurd (says-false here refl r)))

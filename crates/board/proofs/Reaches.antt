@@ -1,23 +1,22 @@
 -- `reaches` is true exactly of the sums of one or more sizes, each as often as one likes.
 use Prim.Native.Nat.{ℕ, zero, suc, _+_, _-_, _≤_, _<_}
-use mathlib.Core.Bool.{Bool, true, false, _&&_, _||_}
+use mathlib.Core.Bool.{Bool, true, false}
 use mathlib.Core.Path.{_≡_, refl, sym, ap, _∙_}
 use mathlib.Core.List.{List, [], _∷_, _++_}
 use mathlib.Core.Logic.{_⊎_, inl, inr, ⊎-elim}
 use native.Mathlib.Omega.{arith}
 use native.Mathlib.Nat.{eq-or-lt-of-le}
-use lib.Dec.{ltb, eqb}
 use lib.ListN.{length, getD, length-append, List·getD-eq-default, List·getD-append}
 use lib.Seq.{getD-at}
 use Rattle.laws.specs.Inner.{Says}
-use Rattle.laws.proofs.Says.{true≢false, says-no, says-iff, says-lt, says-eq, says-and, says-or}
-use Rattle.laws.proofs.Below.{anyBelow-none, anyBelow-more, anyBelow-says, anyBelow-same}
+use Rattle.laws.proofs.Says.{true≢false, says-iff, says-lt, says-eq, says-and, says-or}
+use Rattle.laws.proofs.Below.{anyBelow-says, anyBelow-same}
 use Rattle.laws.proofs.Order.{le-or-lt}
 use Rattle.cutting.specs.Points.{Sum, one, more}
 use Rattle.board.specs.Inner.{Size, makes, someMakes, reachesUpTo, reaches}
 
 -- Only the first n sizes count.
-pub someMakes-sizes : (made : ℕ → Bool) (size other : ℕ → ℕ) (n c : ℕ) → ((k : ℕ) → k < n → size k ≡ other k)
+someMakes-sizes : (made : ℕ → Bool) (size other : ℕ → ℕ) (n c : ℕ) → ((k : ℕ) → k < n → size k ≡ other k)
     → someMakes made size n c ≡ someMakes made other n c
 unfolding someMakes
 someMakes-sizes made size other n c h = anyBelow-same _ _ n (λ k b. ap (λ (s : ℕ). makes made s c) (h k b))

@@ -13,7 +13,7 @@ use Rattle.laws.proofs.Says.{says-false}
 use Rattle.laws.specs.Put.{put}
 use Rattle.laws.proofs.Placed.{put-in, put-out, is-put, put-set}
 use Rattle.cutting.specs.Limits.{sideMax}
-use Rattle.board.specs.Inner.{countOn, entryAt, markAt, bit, markCount, stepAt, markRow, isWithin, isSize, withSize, isPoint, reaches, leads, marksOf, Markable}
+use Rattle.board.specs.Inner.{countOn, entryAt, markAt, bit, markCount, stepAt, markRow, markedBy, isWithin, isSize, withSize, withSizes, isPoint, reaches, leads, marksOf, Markable}
 use Rattle.board.proofs.Marks.{markRow-length, markRow-at, markRow-same, markRow-set}
 use Rattle.board.proofs.Steps.{Stepped, steps-none, IsReached, reaches-closed}
 use Rattle.board.proofs.Passing.{isWithin-says, isSize-other, isSize-new, passed, passed-none, passed-all, passed-upto, passed-other, passed-more, steps-more}
@@ -26,10 +26,6 @@ bit-read false e = ap (λ (m : ℕ). eqb m 1) e
 bit-or : (b d : Bool) → cond b 1 (bit d) ≡ bit (b || d)
 bit-or true d = refl
 bit-or false d = refl
-
--- A board with the marks of a test.
-unfoldable pub markedBy : List ℕ → ℕ → (ℕ → Bool) → List ℕ
-markedBy board marks test = put board marks (markRow test)
 
 pub marking-same : (board : List ℕ) (marks : ℕ) (test other : ℕ → Bool) {now : List ℕ} → now ≡ markedBy board marks test → ((c : ℕ) → test c ≡ other c)
     → now ≡ markedBy board marks other
@@ -97,8 +93,8 @@ module _ {board : List ℕ} {sizes marks side : ℕ} (ready : Markable board siz
           marking-same board marks (isSize size k side) (isSize size (k + 1) side) e
           (λ c. isSize-other size side k c (λ i r. says-false w refl (subst (λ (m : ℕ). (1 ≤ m) × (m ≤ side)) (i ∙ sym is) r)))
 
-  passing-start : {now steps : List ℕ} → now ≡ markedBy board marks (isSize size n side) → length steps ≡ markCount
-      → Passing board sizes marks side 0 now steps 0
+  passing-start : {now steps : List ℕ} → now ≡ withSizes board sizes marks side → length steps ≡ markCount → Passing board sizes marks side 0 now steps 0
+  unfolding withSizes
   passing-start e l =
       record {
         marked = marking-same board marks (isSize size n side) (passed size n side 0) e (passed-none size n side);
@@ -120,14 +116,15 @@ module _ {board : List ℕ} {sizes marks side : ℕ} (ready : Markable board siz
 
 -- The loop knows the board as it was when the sizes had been marked: the pass at `last`, from whichever board that was.
 pub record Passes (sized : List ℕ) (sizes marks side last : ℕ) (now steps : List ℕ) (held : ℕ) : Type 0 where
-  pub from : (board : List ℕ) → Markable board sizes marks side → sized ≡ markedBy board marks (isSize (entryAt board sizes) (countOn board) side)
+  pub from : (board : List ℕ) → Markable board sizes marks side → sized ≡ withSizes board sizes marks side
       → Passing board sizes marks side last now steps held
 
 pub passes-start : {sized steps : List ℕ} {sizes marks side : ℕ} → length steps ≡ markCount → Passes sized sizes marks side 0 sized steps 0
 passes-start l = record { from = λ board ready e. passing-start ready e l }
 
 -- One turn, with the code's last + 1: `led` is whether a step leads there, `own` the mark so far.
-module _ {sizes marks side last held : ℕ} {now steps : List ℕ} {led : Bool} {own mark new held' : ℕ} (h : last < side) (was : own ≡ getD now (marks + (last + 1)) 0)
+module _ {sizes marks side last held : ℕ} {now steps : List ℕ} {led : Bool} {own mark new held' : ℕ} (h : last < side)
+    (was : own ≡ getD now (marks + (last + 1)) 0)
     (search : led ≡ leads (markAt now marks) (stepAt steps) held (last + 1)) (becomes : mark ≡ cond led 1 own) (noted : new ≡ last + 1)
     (count : held' ≡ cond led held (held + own)) where
   passing-more : {board : List ℕ} → Markable board sizes marks side → Passing board sizes marks side last now steps held
@@ -135,7 +132,8 @@ module _ {sizes marks side last held : ℕ} {now steps : List ℕ} {led : Bool} 
   passing-more {board} ready p =
       record {
         marked =
-            marking-set ready (passed s k side last) (passed s k side (last + 1)) (last + 1) (omega (arith, ready .within)) (p .marked) (passed-other s k side last)
+            marking-set ready (passed s k side last) (passed s k side (last + 1)) (last + 1) (omega (arith, ready .within)) (p .marked)
+            (passed-other s k side last)
             (becomes
             ∙ (ap (cond led 1) is ∙ (bit-or led _ ∙ ap bit (passed-more s k side h (p .stepped) (made ready p (omega arith)) search refl))));
         stepped =

@@ -11,18 +11,18 @@ use Rattle.laws.proofs.Order.{le-or-lt, last-or-below}
 use Rattle.laws.proofs.Says.{says-no, says-false, says-iff, says-le, says-eq, says-and, says-or, says-same}
 use Rattle.laws.proofs.Below.{anyBelow-says}
 use Rattle.board.specs.Inner.{Size, reaches, isPoint, bit, isWithin, isSize, triedFrom, Rising, leads}
-use Rattle.board.proofs.Reaches.{reaches-least}
+use Rattle.board.proofs.Reaches.{says-itself, reaches-least}
 use Rattle.board.proofs.Marks.{isPoint-says}
-use Rattle.board.proofs.Steps.{Led, Stepped, steps-stay, steps-grow, steps-kept, IsReached, reaches-closed, size-reached, reached-next}
+use Rattle.board.proofs.Steps.{Led, led-over, led-among, Stepped, steps-stay, steps-grow, steps-kept, IsReached, reaches-closed, size-reached, reached-next}
 
--- The search among the steps: none of the first, one more, and that it may stop at a step that is too large.
+-- The search among the steps.
 module _ (made : ℕ → Bool) (step : ℕ → ℕ) where
   pub leads-says : (held c : ℕ) → Says (leads made step held c) (Led (λ m. made m ≡ true) step held c)
   unfolding leads
   leads-says held c = says-iff (to, from) (anyBelow-says (λ j. leb (triedFrom (step j)) c && made (c - step j)) held)
     where
       each : (j : ℕ) → Says (leb (triedFrom (step j)) c && made (c - step j)) ((triedFrom (step j) ≤ c) × (made (c - step j) ≡ true))
-      each j = says-and (says-le (triedFrom (step j)) c) (record { means = λ e. e; found = λ e. e })
+      each j = says-and (says-le (triedFrom (step j)) c) (says-itself (made (c - step j)))
 
       to : (j : ℕ) × (j < held) × ((leb (triedFrom (step j)) c && made (c - step j)) ≡ true) → Led (λ m. made m ≡ true) step held c
       to (j, b, e) = record { index = j; among = b; tried = each j .means e .0; leaves = each j .means e .1 }
@@ -38,7 +38,7 @@ module _ (made : ℕ → Bool) (step : ℕ → ℕ) where
   unled-more j c none e new l =
       ⊎-elim
       (λ q. new (ap (λ (s : ℕ). made (c - s)) (e ∙ sym (ap step q)) ∙ l .leaves))
-      (λ b. none (record { index = l .index; among = b; tried = l .tried; leaves = l .leaves }))
+      (λ b. none (led-among l b))
       (last-or-below {k = l .index} {n = j} (omega (arith, l .among)))
 
   -- A step that is too large for c ends the search: the later ones are larger.
@@ -46,7 +46,7 @@ module _ (made : ℕ → Bool) (step : ℕ → ℕ) where
   unled-stop held j c rising none h l =
       ⊎-elim
       (λ b. ⊎-elim (λ e. omega (arith, l .tried, ap step e)) (λ b. omega (arith, l .tried, rising .rises j (l .index) b (l .among))) (eq-or-lt-of-le b))
-      (λ b. none (record { index = l .index; among = b; tried = l .tried; leaves = l .leaves }))
+      (λ b. none (led-among l b))
       (le-or-lt j (l .index))
 
 -- The sizes, marked one after the other.
@@ -71,7 +71,8 @@ module _ (size : ℕ → ℕ) (side : ℕ) where
   -- The code's n + 1: only the mark of the new size can change.
   pub isSize-other : (n c : ℕ) → (c ≡ size n → (1 ≤ c) × (c ≤ side) → ⊥) → isSize size n side c ≡ isSize size (n + 1) side c
   isSize-other n c new =
-      says-same (isSize-says n c) (says-iff (less, (λ s. (s .0, record { index = s .1 .index; among = omega (arith, s .1 .among); equal = s .1 .equal }))) (isSize-says (n + 1) c))
+      says-same (isSize-says n c)
+      (says-iff (less, (λ s. (s .0, record { index = s .1 .index; among = omega (arith, s .1 .among); equal = s .1 .equal }))) (isSize-says (n + 1) c))
     where
       less : ((1 ≤ c) × (c ≤ side)) × Size size (n + 1) c → ((1 ≤ c) × (c ≤ side)) × Size size n c
       less (h, s) =
@@ -111,15 +112,10 @@ module _ (size : ℕ → ℕ) (n side : ℕ) where
       says-same (passed-says side c)
       (says-iff (inl, ⊎-elim (λ h. h) (λ o. (o .0 .1, own-reached c o))) (isPoint-says size n side c))
 
-  -- Up to `last` a mark says whether the number is reached, and the next one's whether it is a size.
+  -- Up to `last` a mark says whether the number is reached, and only the next one's changes then.
   pub passed-upto : (last c : ℕ) → c ≤ last → passed last c ≡ reaches size n c
   passed-upto last c h =
       says-same (passed-says last c) (record { means = λ e. inl (h, e); found = ⊎-elim (λ t. t .1) (own-reached c) })
-
-  passed-next : (last : ℕ) → passed last (last + 1) ≡ isSize size n side (last + 1)
-  passed-next last =
-      says-same (passed-says last (last + 1))
-      (says-iff (inr, ⊎-elim (λ h. absurd (omega (arith, h .0))) (λ o. o)) (isSize-says size side n (last + 1)))
 
   pub passed-other : (last c : ℕ) → c ≢ last + 1 → passed last c ≡ passed (last + 1) c
   passed-other last c d =
@@ -130,31 +126,24 @@ module _ (size : ℕ → ℕ) (n side : ℕ) where
   module _ {last held : ℕ} {made : ℕ → Bool} {step : ℕ → ℕ} {b own : Bool} (h : last < side) (steps : Stepped (IsReached size n) last step held)
       (same : (m : ℕ) → m ≤ last → made m ≡ reaches size n m) (search : b ≡ leads made step held (last + 1)) (mark : own ≡ passed last (last + 1)) where
     led-says : Says b (Led (IsReached size n) step held (last + 1))
-    led-says = subst (λ (x : Bool). Says x (Led (IsReached size n) step held (last + 1))) (sym search) (says-iff (to, from) (leads-says made step held (last + 1)))
+    led-says = rw search (says-iff (led-over (λ j b x. sym (left j b) ∙ x), led-over (λ j b x. left j b ∙ x)) (leads-says made step held (last + 1)))
       where
         left : (j : ℕ) → j < held → made (last + 1 - step j) ≡ reaches size n (last + 1 - step j)
         left j b = same (last + 1 - step j) (omega (arith, reaches-least size n (step j) (steps .each j b .1)))
 
-        to : Led (λ m. made m ≡ true) step held (last + 1) → Led (IsReached size n) step held (last + 1)
-        to l = record { index = l .index; among = l .among; tried = l .tried; leaves = sym (left (l .index) (l .among)) ∙ l .leaves }
-
-        from : Led (IsReached size n) step held (last + 1) → Led (λ m. made m ≡ true) step held (last + 1)
-        from l = record { index = l .index; among = l .among; tried = l .tried; leaves = left (l .index) (l .among) ∙ l .leaves }
-
     own-says : Says own (Size size n (last + 1))
     own-says =
-        subst (λ (x : Bool). Says x (Size size n (last + 1))) (sym (mark ∙ passed-next last))
-        (says-iff ((λ o. o .1), (λ s. ((omega arith, omega arith), s))) (isSize-says size side n (last + 1)))
+        rw mark (says-iff (⊎-elim (λ h. absurd (omega (arith, h .0))) (λ o. o .1), (λ s. inr ((omega arith, omega arith), s))) (passed-says last (last + 1)))
 
     reached-says : Says (b || own) (IsReached size n (last + 1))
     reached-says = says-iff (reached-next size n steps) (says-or led-says own-says)
 
     pub passed-more : b || own ≡ passed (last + 1) (last + 1)
-    passed-more = says-same reached-says (record { means = λ e. e; found = λ e. e }) ∙ sym (passed-upto (last + 1) (last + 1) (omega arith))
+    passed-more = says-same reached-says (says-itself _) ∙ sym (passed-upto (last + 1) (last + 1) (omega arith))
 
     -- A size that no step leads to is a step itself.
-    pub steps-more : {other : ℕ → ℕ} {held' : ℕ} → ((j : ℕ) → j < held → other j ≡ step j) → other held ≡ last + 1 → held' ≡ cond b held (held + bit own)
-        → Stepped (IsReached size n) (last + 1) other held'
+    pub steps-more : {other : ℕ → ℕ} {held' : ℕ} → ((j : ℕ) → j < held → other j ≡ step j) → other held ≡ last + 1
+        → held' ≡ cond b held (held + bit own) → Stepped (IsReached size n) (last + 1) other held'
     steps-more {other} keeps new e = subst (Stepped R (last + 1) other) (sym e) (by b own led-says reached-says)
       where
         R : ℕ → Type 0

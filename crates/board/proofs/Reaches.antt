@@ -15,6 +15,9 @@ use Rattle.laws.proofs.Order.{le-or-lt}
 use Rattle.cutting.specs.Points.{Sum, one, more}
 use Rattle.board.specs.Inner.{Size, makes, someMakes, reachesUpTo, reaches}
 
+pub says-itself : (b : Bool) → Says b (b ≡ true)
+says-itself b = record { means = λ e. e; found = λ e. e }
+
 -- Only the first n sizes count.
 someMakes-sizes : (made : ℕ → Bool) (size other : ℕ → ℕ) (n c : ℕ) → ((k : ℕ) → k < n → size k ≡ other k)
     → someMakes made size n c ≡ someMakes made other n c
@@ -60,7 +63,7 @@ module _ (size : ℕ → ℕ) (n : ℕ) where
 -- A size makes c exactly when it is c, or is smaller and what it leaves is made.
 pub makes-says : (made : ℕ → Bool) (s c : ℕ) → Says (makes made s c) ((s ≡ c) ⊎ ((s < c) × (made (c - s) ≡ true)))
 unfolding makes
-makes-says made s c = says-or (says-eq s c) (says-and (says-lt s c) (record { means = λ e. e; found = λ e. e }))
+makes-says made s c = says-or (says-eq s c) (says-and (says-lt s c) (says-itself (made (c - s))))
 
 pub someMakes-says : (made : ℕ → Bool) (size : ℕ → ℕ) (n c : ℕ) → Says (someMakes made size n c) ((k : ℕ) × (k < n) × (makes made (size k) c ≡ true))
 unfolding someMakes

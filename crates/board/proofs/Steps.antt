@@ -38,6 +38,12 @@ pub record Led (R : ℕ → Type 0) (step : ℕ → ℕ) (held c : ℕ) : Type 0
   pub tried : triedFrom (step index) ≤ c
   pub leaves : R (c - step index)
 
+pub led-over : {R T : ℕ → Type 0} {step : ℕ → ℕ} {held c : ℕ} → ((j : ℕ) → j < held → R (c - step j) → T (c - step j)) → Led R step held c → Led T step held c
+led-over f l = record { index = l .index; among = l .among; tried = l .tried; leaves = f (l .index) (l .among) (l .leaves) }
+
+pub led-among : {R : ℕ → Type 0} {step : ℕ → ℕ} {held j c : ℕ} (l : Led R step held c) → l .index < j → Led R step j c
+led-among l h = record { index = l .index; among = h; tried = l .tried; leaves = l .leaves }
+
 -- The steps up to `last`: they rise, and serve every number of R up to there.
 pub record Stepped (R : ℕ → Type 0) (last : ℕ) (step : ℕ → ℕ) (held : ℕ) : Type 0 where
   pub few : held ≤ last
@@ -46,7 +52,8 @@ pub record Stepped (R : ℕ → Type 0) (last : ℕ) (step : ℕ → ℕ) (held 
   pub served : (t : ℕ) → t ≤ last → R t → Served R step held t
 
 -- The step that serves the smaller of two parts is at most half of their sum.
-smaller-led : {R : ℕ → Type 0} {step : ℕ → ℕ} {held s : ℕ} (c r : ℕ) → Closed R → s ≤ r → c ≡ s + r → Served R step held s → R r → Led R step held c
+smaller-led : {R : ℕ → Type 0} {step : ℕ → ℕ} {held s : ℕ} (c r : ℕ) → Closed R → s ≤ r → c ≡ s + r → Served R step held s → R r
+    → Led R step held c
 smaller-led {R} {step} {held} {s} c r closed l e v x = by (v .serves)
   where
     by : (step (v .index) ≡ s) ⊎ ((step (v .index) < s) × R (s - step (v .index))) → Led R step held c
@@ -85,7 +92,10 @@ module _ {R : ℕ → Type 0} (closed : Closed R) where
           few = omega (arith, steps .few);
           each = λ j h. (omega (arith, steps .each j h .0), steps .each j h .1);
           rising = steps .rising;
-          served = λ t l r. ⊎-elim (λ e. subst (Served R step held) (sym e) (there (lead (subst R e r)))) (λ b. steps .served t (omega arith) r) (eq-or-lt-of-le l);
+          served = λ t l r. ⊎-elim
+              (λ e. subst (Served R step held) (sym e) (there (lead (subst R e r))))
+              (λ b. steps .served t (omega arith) r)
+              (eq-or-lt-of-le l);
         }
       where
         there : Led R step held (last + 1) → Served R step held (last + 1)
@@ -103,7 +113,12 @@ module _ {R : ℕ → Type 0} {last : ℕ} {step : ℕ → ℕ} {held : ℕ} (st
             (λ e. subst (λ (g : ℕ). (g ≤ last + 1) × R g) (sym (ap step e ∙ new)) (omega arith, here))
             (λ b. (omega (arith, steps .each j b .0), steps .each j b .1))
             (new-or-before j h);
-        rising = record { rises = λ i j l h. ⊎-elim (λ e. omega (arith, ap step e, steps .each i (omega arith) .0)) (steps .rising .rises i j l) (new-or-before j h) };
+        rising = record {
+          rises = λ i j l h. ⊎-elim
+              (λ e. omega (arith, ap step e, steps .each i (omega arith) .0))
+              (steps .rising .rises i j l)
+              (new-or-before j h);
+        };
         served = λ t l r. ⊎-elim
             (λ e. record { index = held; among = omega arith; serves = inl (new ∙ sym e) })
             (λ b. more-held (steps .served t (omega arith) r))

@@ -139,13 +139,16 @@ bit b = cond b 1 0
 unfoldable pub marksOf : (ℕ → ℕ) → ℕ → ℕ → List ℕ
 marksOf size n side = byIndex (λ c. bit (isPoint size n side c)) markCount
 
+-- How they are found: the sizes are marked first, then each number from small to large by the steps, which are the sizes that no smaller ones reach.
+
 -- The marks of the numbers that pass a test.
 unfoldable pub markRow : (ℕ → Bool) → List ℕ
 markRow test = byIndex (λ c. bit (test c)) markCount
 
--- How they are found: the sizes are marked first; then each number from small to large by the steps, which are the sizes that no smaller sizes reach.
+unfoldable pub markedBy : List ℕ → ℕ → (ℕ → Bool) → List ℕ
+markedBy board marks test = put board marks (markRow test)
 
--- Is c a number that is marked for the side, where it is a size?
+-- Is c a number of the side?
 unfoldable pub isWithin : ℕ → ℕ → Bool
 isWithin side c = leb 1 c && leb c side
 
@@ -153,9 +156,12 @@ isWithin side c = leb 1 c && leb c side
 unfoldable pub isSize : (ℕ → ℕ) → ℕ → ℕ → ℕ → Bool
 isSize size n side c = isWithin side c && anyBelow (λ k. eqb (size k) c) n
 
--- With a mark for a size s.
+-- With the mark of a size s, and of all sizes.
 unfoldable pub withSize : List ℕ → ℕ → ℕ → ℕ → List ℕ
 withSize board marks side s = cond (isWithin side s) (set board (marks + s) 1) board
+
+unfoldable pub withSizes : List ℕ → ℕ → ℕ → ℕ → List ℕ
+withSizes board sizes marks side = markedBy board marks (isSize (entryAt board sizes) (countOn board) side)
 
 abbrev pub stepAt : List ℕ → ℕ → ℕ
 stepAt steps j = getD steps j 0

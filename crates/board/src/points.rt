@@ -5,7 +5,7 @@ ghost use mathlib.Core.Path.{_≡_};
 ghost use Prim.Native.Nat.{_+_, _≤_};
 ghost use Rattle.laws.specs.Put.{put};
 ghost use Rattle.cutting.specs.Limits.{sideMax};
-ghost use Rattle.board.specs.Inner.{places, markCount, markAt, entryAt, stepAt, countOn, markRow, isSize, withSize, leads, Rising, marksOf, Markable, Pieced, withPoints};
+ghost use Rattle.board.specs.Inner.{places, markCount, markAt, entryAt, stepAt, countOn, withSize, withSizes, leads, Rising, marksOf, Markable, Pieced, withPoints};
 use crate::ACROSS;
 use crate::Board;
 use crate::HEIGHTS;
@@ -38,7 +38,7 @@ fn mark_size(board: &mut Board, marks: usize, size: usize, side: usize)
 // Marks the sizes themselves.
 fn mark_sizes(board: &mut Board, sizes: usize, marks: usize, side: usize)
     requires { ⌜ Markable (now board) sizes marks side ⌝ }
-    ensures { λ _. ⌜ now (board .exit) ≡ put (now (board .entry)) marks (markRow (isSize (entryAt (now (board .entry)) sizes) (countOn (now (board .entry))) side)) ⌝ }
+    ensures { λ _. ⌜ now (board .exit) ≡ withSizes (now (board .entry)) sizes marks side ⌝ }
 {
     let n = count(board);
     for k in 0..n {

@@ -26,9 +26,10 @@ returns c =
 
 returns-2 : tie.Need-returns-2 Inv-loop μ-loop
 returns-2 c =
+    let at-loop = c .before .before .before .before .before .before in
     let read = c .before .before .before .wide .ensures .0 in
     let mark = says-eq _ 1 .found (rw read at (c .if2 .taken)) in
-    sym (leads-says _ _ _ _ .found (record { index = c .before .before .before .before .before .before .loop .j; among = omega arith; tried = omega (arith, read); leaves = mark }))
+    sym (leads-says _ _ _ _ .found (record { index = at-loop .loop .j; among = omega arith; tried = omega (arith, read); leaves = mark }))
 
 loop-again : tie.Need-loop-again Inv-loop μ-loop
 loop-again c =

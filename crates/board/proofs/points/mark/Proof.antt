@@ -2,7 +2,7 @@
 use Prim.Native.Nat.{_-_, _≤_}
 use mathlib.Core.Path.{refl}
 use native.Mathlib.Omega.{arith}
-use Rattle.board.proofs.Marking.{markedBy, Passes, passes-start, passes-more, passing-end}
+use Rattle.board.proofs.Marking.{Passes, passes-start, passes-more, passing-end}
 use borrow.Author.Needs.{needs}
 use Rattle.board.proofs.points.mark.Statement.{statement}
 use Rattle.board.proofs.points.mark.Tie as tie
@@ -18,14 +18,12 @@ loop-holds : tie.Need-loop-holds Inv-loop μ-loop
 loop-holds c = (omega arith, omega arith, passes-start refl)
 
 led-requires : tie.Need-led-requires Inv-loop μ-loop
-unfolding markedBy
 led-requires c κs =
     let at-loop = c .before .before .before .before in
     let ready = at-loop .before .before .before .pre in
     ((ready .room, omega arith), (omega arith, at-loop .loop .inv .2 .from _ ready (at-loop .before .mark-sizes .ensures) .stepped .rising))
 
 loop-again : tie.Need-loop-again Inv-loop μ-loop
-unfolding markedBy
 loop-again c =
     let at-loop = c .before .before .before .before .before .before .before .before in
     let further = passes-more (omega arith) refl (c .before .before .before .led .ensures) (c .before .before .mark-of .ensures) (c .before .narrow .ensures)
@@ -33,7 +31,6 @@ loop-again c =
     (omega arith, further .from _ (at-loop .before .before .before .pre) (at-loop .before .mark-sizes .ensures) .stepped .few, further)
 
 returns : tie.Need-returns Inv-loop μ-loop
-unfolding markedBy
 returns c =
     let at-loop = c .before in
     let ready = at-loop .before .before .before .pre in

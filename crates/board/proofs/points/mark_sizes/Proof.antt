@@ -2,9 +2,9 @@
 use Prim.Native.Nat.{_-_, _≤_}
 use native.Mathlib.Omega.{arith}
 use mathlib.Core.Path.{_≡_, _∙_}
-use Rattle.board.specs.Inner.{countOn, entryAt, isSize}
+use Rattle.board.specs.Inner.{countOn, entryAt, markedBy, isSize, withSizes}
 use Rattle.board.proofs.Passing.{isSize-none}
-use Rattle.board.proofs.Marking.{markedBy, marking-none, sizes-more}
+use Rattle.board.proofs.Marking.{marking-none, sizes-more}
 use borrow.Author.Needs.{needs}
 use Rattle.board.proofs.points.mark_sizes.Statement.{statement}
 use Rattle.board.proofs.points.mark_sizes.Tie as tie
@@ -25,7 +25,7 @@ loop-again c =
     (omega arith, c .mark-size .ensures ∙ sizes-more ready _ (omega arith) (at-loop .loop .inv .1) (c .before .before .wide .ensures .0))
 
 returns : tie.Need-returns Inv-loop μ-loop
-unfolding markedBy
+unfolding withSizes
 returns c =
     let start = c .before .before .before .before in
     let end : c .before .loop .k ≡ countOn (start .args .board .now) = omega arith in

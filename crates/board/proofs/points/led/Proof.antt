@@ -5,7 +5,6 @@ use mathlib.Core.Path.{_≡_, sym}
 use Rattle.laws.proofs.Says.{says-no, says-eq}
 use Rattle.board.specs.Inner.{markAt, stepAt}
 use Rattle.board.proofs.Passing.{leads-says, Unled, unled-more, unled-stop}
-use borrow.Author.Needs.{needs}
 use Rattle.board.proofs.points.led.Statement.{statement}
 use Rattle.board.proofs.points.led.Tie as tie
 
@@ -42,4 +41,4 @@ returns-3 c =
     sym (says-no (leads-says _ _ _ _) (rw end at (c .before .loop .inv .1)))
 
 pub led-spec : {M : Type 1} → statement M
-led-spec = tie.close (tie.spec Inv-loop μ-loop loop-holds (λ c. omega arith) (λ c. omega arith) (λ c κs. search needs) (λ c. omega arith) returns (λ c. omega arith) (λ c. omega arith) (λ c. omega arith) (λ c. omega arith) returns-2 (λ c. omega arith) (λ c. omega arith) loop-again returns-3)
+led-spec = tie.close (tie.spec Inv-loop μ-loop loop-holds (λ c. omega arith) (λ c. omega arith) (λ c κs. tt) (λ c. omega arith) returns (λ c. omega arith) (λ c. omega arith) (λ c. omega arith) (λ c. omega arith) returns-2 (λ c. omega arith) (λ c. omega arith) loop-again returns-3)

@@ -3,7 +3,6 @@ use Prim.Native.Nat.{_-_, _≤_}
 use mathlib.Core.Path.{refl}
 use native.Mathlib.Omega.{arith}
 use Rattle.board.proofs.Marking.{Passes, passes-start, passes-more, passing-end}
-use borrow.Author.Needs.{needs}
 use Rattle.board.proofs.points.mark.Statement.{statement}
 use Rattle.board.proofs.points.mark.Tie as tie
 
@@ -37,4 +36,4 @@ returns c =
     passing-end ready (at-loop .loop .inv .2 .from _ ready (at-loop .before .mark-sizes .ensures)) (omega arith)
 
 pub mark-spec : {M : Type 1} → statement M
-mark-spec = tie.close (tie.spec Inv-loop μ-loop (λ c κs. c .before .pre) loop-holds (λ c. omega arith) (λ c. omega arith) (λ c. omega arith) (λ c. omega arith) led-requires (λ c κs. search needs) (λ c. omega arith) (λ c. omega arith) (λ c. omega arith) (λ c κs. omega arith) (λ c. omega arith) (λ c. omega arith) (λ c κs. omega arith) (λ c. omega arith) loop-again returns)
+mark-spec = tie.close (tie.spec Inv-loop μ-loop (λ c κs. c .before .pre) loop-holds (λ c. omega arith) (λ c. omega arith) (λ c. omega arith) (λ c. omega arith) led-requires (λ c κs. tt) (λ c. omega arith) (λ c. omega arith) (λ c. omega arith) (λ c κs. omega arith) (λ c. omega arith) (λ c. omega arith) (λ c κs. omega arith) (λ c. omega arith) loop-again returns)

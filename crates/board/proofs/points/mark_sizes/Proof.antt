@@ -5,7 +5,6 @@ use mathlib.Core.Path.{_≡_, _∙_}
 use Rattle.board.specs.Inner.{countOn, entryAt, markedBy, isSize, withSizes}
 use Rattle.board.proofs.Passing.{isSize-none}
 use Rattle.board.proofs.Marking.{marking-none, sizes-more}
-use borrow.Author.Needs.{needs}
 use Rattle.board.proofs.points.mark_sizes.Statement.{statement}
 use Rattle.board.proofs.points.mark_sizes.Tie as tie
 
@@ -32,4 +31,4 @@ returns c =
     rw end at (c .before .loop .inv .1)
 
 pub mark-sizes-spec : {M : Type 1} → statement M
-mark-sizes-spec = tie.close (tie.spec Inv-loop μ-loop (λ c κs. search needs) loop-holds (λ c. omega arith) (λ c. omega arith) (λ c. omega arith) (λ c κs. search needs) (λ c κs. omega arith) (λ c. omega arith) (λ c. omega arith) loop-again returns)
+mark-sizes-spec = tie.close (tie.spec Inv-loop μ-loop (λ c κs. tt) loop-holds (λ c. omega arith) (λ c. omega arith) (λ c. omega arith) (λ c κs. tt) (λ c κs. omega arith) (λ c. omega arith) (λ c. omega arith) loop-again returns)

@@ -21,7 +21,7 @@ use fields::cast::wide;
 // The steps that were found, with room for one at each number.
 type Steps = [u16; MARKS];
 
-// Marks a size that is at most the side.
+// Marks a size that is at most the side; 0 is no point (rule 3.3).
 fn mark_size(board: &mut Board, marks: usize, size: usize, side: usize)
     requires { ⌜ (marks + markCount ≤ places) × (side ≤ sideMax) ⌝ }
     ensures { λ _. ⌜ now (board .exit) ≡ withSize (now (board .entry)) marks side size ⌝ }
@@ -35,7 +35,7 @@ fn mark_size(board: &mut Board, marks: usize, size: usize, side: usize)
     board[marks + size] = 1;
 }
 
-// Marks the sizes themselves.
+// Marks the sizes themselves: each is a sum of one (rule 3.1).
 fn mark_sizes(board: &mut Board, sizes: usize, marks: usize, side: usize)
     requires { ⌜ Markable (now board) sizes marks side ⌝ }
     ensures { λ _. ⌜ now (board .exit) ≡ withSizes (now (board .entry)) sizes marks side ⌝ }

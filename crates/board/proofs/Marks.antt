@@ -1,22 +1,52 @@
 -- A mark is a point: of P where the sizes are the widths, and of Q, which is P of the turned lay, where they are the heights.
-use Prim.Native.Nat.{ℕ, suc, _+_, _≤_, _<_}
+use Prim.Native.Nat.{ℕ, _≤_, _<_}
 use mathlib.Core.Bool.{Bool, true, false}
 use mathlib.Core.Path.{_≡_, refl, sym, ap, _∙_}
+use mathlib.Core.List.{List}
 use mathlib.Core.Logic.{_≢_, _↔_}
 use native.Mathlib.Omega.{arith}
-use native.Mathlib.Numerals.{add-one}
 use native.Mathlib.Decide.{ℕ-discrete}
 use lib.ListN.{length, getD, set, length-set}
 use lib.Seq.{getD-set-same, getD-set-other}
 use lib.Dec.{leb}
 use Rattle.laws.specs.Inner.{Says}
-use Rattle.laws.proofs.Says.{true≢false, says-iff, says-no, says-le, says-same}
+use Rattle.laws.proofs.Says.{true≢false, says-iff, says-le}
 use Rattle.laws.proofs.ByIndex.{byIndex-at, byIndex-length, byIndex-same, is-byIndex}
 use Rattle.cutting.specs.Limits.{sideMax}
 use Rattle.cutting.specs.Piece.{Lay}
 use Rattle.cutting.specs.Points.{Width, Sum, one, more, P}
-use Rattle.board.specs.Inner.{Size, someMakes, reaches, isPoint, bit, markCount, marksOf}
-use Rattle.board.proofs.Reaches.{reaches-least, reaches-next, reaches-says, reaches-sizes}
+use Rattle.board.specs.Inner.{Size, reaches, isPoint, bit, markCount, markRow, marksOf}
+use Rattle.board.proofs.Reaches.{reaches-least, reaches-says, reaches-sizes}
+
+-- The row of marks of a test.
+module _ (test : ℕ → Bool) where
+  pub markRow-length : length (markRow test) ≡ markCount
+  unfolding markRow
+  markRow-length = byIndex-length (λ c. bit (test c)) markCount
+
+  pub markRow-at : (c : ℕ) → c ≤ sideMax → getD (markRow test) c 0 ≡ bit (test c)
+  unfolding markRow
+  markRow-at c h = byIndex-at (λ c. bit (test c)) markCount c 0 (omega arith)
+
+  -- A row with these marks is it.
+  is-markRow : (l : List ℕ) → length l ≡ markCount → ((c : ℕ) → c ≤ sideMax → getD l c 0 ≡ bit (test c)) → l ≡ markRow test
+  unfolding markRow
+  is-markRow l long at = is-byIndex (λ c. bit (test c)) markCount l 0 long (λ c h. at c (omega arith))
+
+pub markRow-same : (test other : ℕ → Bool) → ((c : ℕ) → test c ≡ other c) → markRow test ≡ markRow other
+markRow-same test other same = is-markRow other (markRow test) (markRow-length test) (λ c h. markRow-at test c h ∙ ap bit (same c))
+
+-- One mark set anew, for a test that differs only there.
+pub markRow-set : (test other : ℕ → Bool) (at : ℕ) {v : ℕ} → at ≤ sideMax → ((c : ℕ) → c ≢ at → test c ≡ other c) → v ≡ bit (other at)
+    → set (markRow test) at v ≡ markRow other
+markRow-set test other at {v} h same e =
+    is-markRow other (set (markRow test) at v) (length-set (markRow test) at v ∙ markRow-length test) (λ c b. each c b (ℕ-discrete c at))
+  where
+    each : (c : ℕ) → c ≤ sideMax → Dec (c ≡ at) → getD (set (markRow test) at v) c 0 ≡ bit (other c)
+    each c b (yes q) =
+        let inside : at < length (markRow test) = omega (arith, markRow-length test) in
+        rw (q, getD-set-same) e
+    each c b (no d) = getD-set-other (markRow test) at c v 0 d ∙ (markRow-at test c b ∙ ap bit (same c d))
 
 module _ (size : ℕ → ℕ) (n side : ℕ) where
   pub isPoint-says : (c : ℕ) → Says (isPoint size n side c) ((c ≤ side) × (reaches size n c ≡ true))
@@ -29,19 +59,12 @@ module _ (size : ℕ → ℕ) (n side : ℕ) where
       within false s = record { means = λ e. absurd (true≢false (sym e)); found = λ h. s .found (h .0) }
 
   pub marksOf-length : length (marksOf size n side) ≡ markCount
-  unfolding marksOf
-  marksOf-length = byIndex-length (λ c. bit (isPoint size n side c)) markCount
+  unfolding marksOf markRow
+  marksOf-length = markRow-length (isPoint size n side)
 
   pub marksOf-at : (c : ℕ) → c ≤ sideMax → getD (marksOf size n side) c 0 ≡ bit (isPoint size n side c)
-  unfolding marksOf
-  marksOf-at c h = byIndex-at (λ c. bit (isPoint size n side c)) markCount c 0 (omega arith)
-
-  -- Up to the side a mark is the test, and beyond it there is none.
-  pub isPoint-within : (c : ℕ) → c ≤ side → isPoint size n side c ≡ reaches size n c
-  isPoint-within c h = says-same (isPoint-says c) (record { means = λ e. (h, e); found = λ t. t .1 })
-
-  pub isPoint-past : (c : ℕ) → side < c → isPoint size n side c ≡ false
-  isPoint-past c h = says-no (isPoint-says c) (λ t. omega (arith, t .0))
+  unfolding marksOf markRow
+  marksOf-at = markRow-at (isPoint size n side)
 
 -- Only the first n sizes count.
 pub marksOf-sizes : (size other : ℕ → ℕ) (n side : ℕ) → ((k : ℕ) → k < n → size k ≡ other k) → marksOf size n side ≡ marksOf other n side
@@ -49,44 +72,6 @@ unfolding marksOf isPoint
 marksOf-sizes size other n side same =
     byIndex-same _ _ markCount
     (λ c h. ap (λ (b : Bool). bit (elim (leb c side) as (λ x. Bool) [ true ↦ b | false ↦ false ])) (reaches-sizes size other n same c))
-
--- The pass begins with no mark, and each number from small to large is marked from the marks before it.
-module _ (size : ℕ → ℕ) (n : ℕ) where
-  pub marksOf-none : (c : ℕ) → c ≤ sideMax → getD (marksOf size n 0) c 0 ≡ 0
-  marksOf-none c h =
-      marksOf-at size n 0 c h ∙ ap bit (says-no (isPoint-says size n 0 c) (λ t. omega (arith, t .0, reaches-least size n c (t .1))))
-
-  module _ (last : ℕ) (h : last < sideMax) where
-    -- A number other than the next is a point of the longer side where it is one of the shorter.
-    other-mark : (c : ℕ) → c ≢ last + 1 → isPoint size n last c ≡ isPoint size n (last + 1) c
-    other-mark c d =
-        says-same (isPoint-says size n last c)
-        (says-iff ((λ t. (omega (arith, t .0), t .1)), (λ t. (omega (arith, t .0), t .1))) (isPoint-says size n (last + 1) c))
-
-    module _ (made : ℕ → Bool) (same : (m : ℕ) → m ≤ sideMax → made m ≡ isPoint size n last m) where
-      next-mark : someMakes made size n (last + 1) ≡ isPoint size n (last + 1) (last + 1)
-      next-mark =
-          sym
-          (isPoint-within size n (last + 1) (last + 1) (omega arith)
-          ∙ rw add-one (reaches-next size n made last
-          (λ m l. same m (omega arith) ∙ isPoint-within size n last m l)
-          (same (suc last) (omega arith) ∙ isPoint-past size n last (suc last) (omega arith))))
-
-      pub marksOf-more : set (marksOf size n last) (last + 1) (bit (someMakes made size n (last + 1))) ≡ marksOf size n (last + 1)
-      unfolding marksOf
-      marksOf-more =
-          is-byIndex (λ c. bit (isPoint size n (last + 1) c)) markCount
-          (set (marksOf size n last) (last + 1) (bit (someMakes made size n (last + 1))))
-          0
-          (length-set (marksOf size n last) (last + 1) _ ∙ marksOf-length size n last)
-          (λ c b. at c (omega arith) (ℕ-discrete c (last + 1)))
-        where
-          at : (c : ℕ) → c ≤ sideMax → Dec (c ≡ last + 1)
-              → getD (set (marksOf size n last) (last + 1) (bit (someMakes made size n (last + 1)))) c 0 ≡ bit (isPoint size n (last + 1) c)
-          at c b (yes e) =
-              let inside : last + 1 < length (marksOf size n last) = omega (arith, marksOf-length size n last) in
-              rw (e, getD-set-same) (ap bit next-mark)
-          at c b (no d) = getD-set-other (marksOf size n last) (last + 1) c _ 0 d ∙ (marksOf-at size n last c b ∙ ap bit (other-mark c d))
 
 -- The sums of the same sizes are the same.
 pub sum-over : (S R : ℕ → Type 0) → ((p : ℕ) → S p → R p) → (c : ℕ) → Sum S c → Sum R c

@@ -1,63 +1,28 @@
 -- `reaches` is true exactly of the sums of one or more sizes, each as often as one likes.
 use Prim.Native.Nat.{ℕ, zero, suc, _+_, _-_, _≤_, _<_}
-use mathlib.Core.Bool.{Bool, true, false, _&&_, _||_}
+use mathlib.Core.Bool.{Bool, true, false}
 use mathlib.Core.Path.{_≡_, refl, sym, ap, _∙_}
 use mathlib.Core.List.{List, [], _∷_, _++_}
 use mathlib.Core.Logic.{_⊎_, inl, inr, ⊎-elim}
 use native.Mathlib.Omega.{arith}
 use native.Mathlib.Nat.{eq-or-lt-of-le}
-use lib.Dec.{ltb, eqb}
 use lib.ListN.{length, getD, length-append, List·getD-eq-default, List·getD-append}
 use lib.Seq.{getD-at}
 use Rattle.laws.specs.Inner.{Says}
-use Rattle.laws.proofs.Says.{true≢false, says-no, says-iff, says-lt, says-eq, says-and, says-or}
-use Rattle.laws.proofs.Below.{anyBelow-none, anyBelow-more, anyBelow-says, anyBelow-same}
+use Rattle.laws.proofs.Says.{true≢false, says-iff, says-lt, says-eq, says-and, says-or}
+use Rattle.laws.proofs.Below.{anyBelow-says, anyBelow-same}
 use Rattle.laws.proofs.Order.{le-or-lt}
 use Rattle.cutting.specs.Points.{Sum, one, more}
 use Rattle.board.specs.Inner.{Size, makes, someMakes, reachesUpTo, reaches}
 
--- A smaller size asks for what it leaves of c, and any other is c or makes nothing.
-pub makes-smaller : (made : ℕ → Bool) (s c : ℕ) → s < c → makes made s c ≡ made (c - s)
-unfolding makes
-makes-smaller made s c h = rw (says-no (says-eq s c) (λ e. omega arith), says-lt s c .found h)
-
-pub makes-alone : (made : ℕ → Bool) (s c : ℕ) → c ≤ s → makes made s c ≡ eqb s c
-unfolding makes
-makes-alone made s c h = rw (says-no (says-lt s c) (λ l. omega arith)) (or-false (eqb s c))
-  where
-    or-false : (b : Bool) → b || false ≡ b
-    or-false true = refl
-    or-false false = refl
-
--- A size makes c from what is made up to c: two tests that agree there are one.
-pub makes-same : (made other : ℕ → Bool) (s c : ℕ) → ((m : ℕ) → m ≤ c → made m ≡ other m) → makes made s c ≡ makes other s c
-unfolding makes
-makes-same made other s c h = ap (λ (b : Bool). eqb s c || (ltb s c && b)) (h (c - s) (omega arith))
-
-pub someMakes-same : (made other : ℕ → Bool) (size : ℕ → ℕ) (n c : ℕ) → ((m : ℕ) → m ≤ c → made m ≡ other m)
-    → someMakes made size n c ≡ someMakes other size n c
-unfolding someMakes
-someMakes-same made other size n c h = anyBelow-same _ _ n (λ k b. makes-same made other (size k) c h)
+pub says-itself : (b : Bool) → Says b (b ≡ true)
+says-itself b = record { means = λ e. e; found = λ e. e }
 
 -- Only the first n sizes count.
-pub someMakes-sizes : (made : ℕ → Bool) (size other : ℕ → ℕ) (n c : ℕ) → ((k : ℕ) → k < n → size k ≡ other k)
+someMakes-sizes : (made : ℕ → Bool) (size other : ℕ → ℕ) (n c : ℕ) → ((k : ℕ) → k < n → size k ≡ other k)
     → someMakes made size n c ≡ someMakes made other n c
 unfolding someMakes
 someMakes-sizes made size other n c h = anyBelow-same _ _ n (λ k b. ap (λ (s : ℕ). makes made s c) (h k b))
-
--- What a size makes, known by an answer that was given of it when it was read.
-pub makes-read : (made : ℕ → Bool) (c : ℕ) {s read : ℕ} {answer b : Bool} → read ≡ s → answer ≡ makes made read c → answer ≡ b → makes made s c ≡ b
-makes-read made c e h t = cc
-
-pub someMakes-none : (made : ℕ → Bool) (size : ℕ → ℕ) (c : ℕ) → someMakes made size 0 c ≡ false
-unfolding someMakes
-someMakes-none made size c = anyBelow-none (λ k. makes made (size k) c)
-
--- The code's n + 1.
-pub someMakes-more : (made : ℕ → Bool) (size : ℕ → ℕ) (n c : ℕ) → someMakes made size n c ≡ false → makes made (size n) c ≡ false
-    → someMakes made size (n + 1) c ≡ false
-unfolding someMakes
-someMakes-more made size n c e h = anyBelow-more (λ k. makes made (size k) c) n ∙ rw (e, h)
 
 -- 0 is no point (rule 3.3).
 pub reaches-zero : (size : ℕ → ℕ) (n : ℕ) → reaches size n 0 ≡ false
@@ -95,23 +60,10 @@ module _ (size : ℕ → ℕ) (n : ℕ) where
   unfolding reaches reachesUpTo
   upTo-next c = getD-at (reachesUpTo size n c) _ [] false (suc c) (upTo-length c)
 
-  -- One number more, from any marks that are right up to c and not set at the next.
-  pub reaches-next : (made : ℕ → Bool) (c : ℕ) → ((m : ℕ) → m ≤ c → made m ≡ reaches size n m) → made (suc c) ≡ false
-      → reaches size n (suc c) ≡ someMakes made size n (suc c)
-  reaches-next made c h e =
-      upTo-next c
-      ∙ someMakes-same
-      (λ m. getD (reachesUpTo size n c) m false)
-      made
-      size
-      n
-      (suc c)
-      (λ m l. ⊎-elim (λ q. upTo-past c m (omega arith) ∙ sym (ap made q ∙ e)) (λ b. upTo-at c m (omega arith) ∙ sym (h m (omega arith))) (eq-or-lt-of-le l))
-
 -- A size makes c exactly when it is c, or is smaller and what it leaves is made.
 pub makes-says : (made : ℕ → Bool) (s c : ℕ) → Says (makes made s c) ((s ≡ c) ⊎ ((s < c) × (made (c - s) ≡ true)))
 unfolding makes
-makes-says made s c = says-or (says-eq s c) (says-and (says-lt s c) (record { means = λ e. e; found = λ e. e }))
+makes-says made s c = says-or (says-eq s c) (says-and (says-lt s c) (says-itself (made (c - s))))
 
 pub someMakes-says : (made : ℕ → Bool) (size : ℕ → ℕ) (n c : ℕ) → Says (someMakes made size n c) ((k : ℕ) × (k < n) × (makes made (size k) c ≡ true))
 unfolding someMakes

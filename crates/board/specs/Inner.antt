@@ -1,10 +1,10 @@
 -- The board as it computes; nobody has to believe it: `board-holds` says that it holds the job's pieces and the points of P and Q.
-use Prim.Native.Nat.{ℕ, zero, suc, _+_, _-_, _<_, _≤_}
+use Prim.Native.Nat.{ℕ, zero, suc, _+_, _-_, _*_, _<_, _≤_}
 use mathlib.Core.Bool.{Bool, true, false, cond, _&&_, _||_}
 use mathlib.Core.Path.{_≡_}
 use mathlib.Core.List.{List, [], _∷_, _++_}
 use lib.Dec.{leb, ltb, eqb}
-use lib.ListN.{length, getD, replicate}
+use lib.ListN.{length, getD, set, replicate}
 use Rattle.laws.specs.Inner.{anyBelow, Says}
 use Rattle.laws.specs.ByIndex.{byIndex}
 use Rattle.laws.specs.Put.{put}
@@ -139,6 +139,44 @@ bit b = cond b 1 0
 unfoldable pub marksOf : (ℕ → ℕ) → ℕ → ℕ → List ℕ
 marksOf size n side = byIndex (λ c. bit (isPoint size n side c)) markCount
 
+-- How they are found: the sizes are marked first, then each number from small to large by the steps, which are the sizes that no smaller ones reach.
+
+-- The marks of the numbers that pass a test.
+unfoldable pub markRow : (ℕ → Bool) → List ℕ
+markRow test = byIndex (λ c. bit (test c)) markCount
+
+unfoldable pub markedBy : List ℕ → ℕ → (ℕ → Bool) → List ℕ
+markedBy board marks test = put board marks (markRow test)
+
+-- Is c a number of the side?
+unfoldable pub isWithin : ℕ → ℕ → Bool
+isWithin side c = leb 1 c && leb c side
+
+-- Is it besides one of the first n sizes?
+unfoldable pub isSize : (ℕ → ℕ) → ℕ → ℕ → ℕ → Bool
+isSize size n side c = isWithin side c && anyBelow (λ k. eqb (size k) c) n
+
+-- With the mark of a size s, and of all sizes.
+unfoldable pub withSize : List ℕ → ℕ → ℕ → ℕ → List ℕ
+withSize board marks side s = cond (isWithin side s) (set board (marks + s) 1) board
+
+unfoldable pub withSizes : List ℕ → ℕ → ℕ → ℕ → List ℕ
+withSizes board sizes marks side = markedBy board marks (isSize (entryAt board sizes) (countOn board) side)
+
+abbrev pub stepAt : List ℕ → ℕ → ℕ
+stepAt steps j = getD steps j 0
+
+pub record Rising (step : ℕ → ℕ) (held : ℕ) : Type 0 where
+  pub rises : (i j : ℕ) → i < j → j < held → step i < step j
+
+-- The least number for which a step is tried: it is at most half of it.
+abbrev pub triedFrom : ℕ → ℕ
+triedFrom step = 2 * step
+
+-- One of the first `held` steps leads to c: it is tried for c, and what it leaves of c is made.
+unfoldable pub leads : (ℕ → Bool) → (ℕ → ℕ) → ℕ → ℕ → Bool
+leads made step held c = anyBelow (λ j. leb (triedFrom (step j)) c && made (c - step j)) held
+
 -- The board of a job.
 
 abbrev pub measureOf : Measure → Record → ℕ
@@ -183,15 +221,18 @@ pub record Hold (rows : Rows) (pieces : List Piece) (a b : ℕ) : Type 0 where
 
 -- What the marking asks of a board.
 
--- Sizes and marks have their room on the board, the sizes before the marks.
-pub record MarkRoom (sizes marks : ℕ) : Type 0 where
-  pub after : widths ≤ sizes
-  pub apart : sizes + entries ≤ marks
-  pub within : marks + markCount ≤ places
-
 -- There is no mark yet.
 pub record Unmarked (board : List ℕ) (marks : ℕ) : Type 0 where
   pub zeros : (c : ℕ) → c < markCount → getD board (marks + c) 0 ≡ 0
+
+-- Up to a side, from the sizes, which stand before the marks.
+pub record Markable (board : List ℕ) (sizes marks side : ℕ) : Type 0 where
+  pub few : countOn board ≤ entries
+  pub apart : sizes + entries ≤ marks
+  pub room : marks + markCount ≤ places
+  pub long : length board ≡ places
+  pub within : side ≤ sideMax
+  pub none : Unmarked board marks
 
 -- A board with sides and pieces and no marks.
 pub record Pieced (board : List ℕ) : Type 0 where

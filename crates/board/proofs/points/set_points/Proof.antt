@@ -8,17 +8,22 @@ use Rattle.board.proofs.points.set_points.Tie as tie
 mark-requires : tie.Need-mark-requires
 mark-requires c κs =
     let ready = c .before .before .before .before .before .pre in
-    ((record { after = omega arith; apart = omega arith; within = omega arith }, ready .few), (ready .long, (omega (arith, ready .wide), ready .noneAcross)))
+    record { few = ready .few; apart = omega arith; room = omega arith; long = ready .long; within = omega (arith, ready .wide); none = ready .noneAcross }
 
 mark-requires-2 : tie.Need-mark-requires-2
 mark-requires-2 c κs =
     let at-width = c .before .before .before .before .before in
     let ready = at-width .before .before .pre in
     let across = c .before .mark .ensures in
-    let wide = at-width .width .ensures in (
-      (record { after = omega arith; apart = omega arith; within = omega arith }, omega (arith, half-count _ ready wide across, ready .few)),
-      (half-length _ ready wide across, (omega (arith, ready .high), half-unmarked _ ready wide across)),
-    )
+    let wide = at-width .width .ensures in
+    record {
+      few = omega (arith, half-count _ ready wide across, ready .few);
+      apart = omega arith;
+      room = omega arith;
+      long = half-length _ ready wide across;
+      within = omega (arith, ready .high);
+      none = half-unmarked _ ready wide across;
+    }
 
 returns : tie.Need-returns
 returns c =

@@ -178,19 +178,20 @@ static void times(void) {
     }
 }
 
+/* The most over all cases, with the points and without them. */
 static void stack_use(void) {
-    size_t most[ENGINES] = {0};
-    for (int i = 0; i < CASES; i++) {
-        cases[i].prepare();
-        for (int k = 0; k < ENGINES; k++) {
-            size_t used = deepest(engines[k].with) - deepest(engines[k].without);
-            most[k] = used > most[k] ? used : most[k];
+    for (int k = 0; k < ENGINES; k++) {
+        size_t with = 0, without = 0;
+        for (int i = 0; i < CASES; i++) {
+            size_t used;
+            cases[i].prepare();
+            used = deepest(engines[k].with);
+            with = used > with ? used : with;
+            used = deepest(engines[k].without);
+            without = used > without ? used : without;
         }
+        printf("%s | %zu | %zu\n", engines[k].name, with, without);
     }
-    printf("points alone");
-    for (int k = 0; k < ENGINES; k++)
-        printf(" | %s %zu", engines[k].name, most[k]);
-    printf("\n");
 }
 
 static int count(const char *name, const char *engine, int work) {

@@ -11,7 +11,7 @@ use lib.Seq.{getD-set-same, getD-set-other}
 use lib.Dec.{leb}
 use Rattle.laws.specs.Inner.{Says}
 use Rattle.laws.proofs.Says.{true≢false, says-iff, says-le}
-use Rattle.laws.proofs.ByIndex.{byIndex-at, byIndex-length, byIndex-same, is-byIndex}
+use Rattle.laws.proofs.ByIndex.{byIndex-at, byIndex-length, is-byIndex}
 use Rattle.cutting.specs.Limits.{sideMax}
 use Rattle.cutting.specs.Piece.{Lay}
 use Rattle.cutting.specs.Points.{Width, Sum, one, more, P}
@@ -59,19 +59,19 @@ module _ (size : ℕ → ℕ) (n side : ℕ) where
       within false s = record { means = λ e. absurd (true≢false (sym e)); found = λ h. s .found (h .0) }
 
   pub marksOf-length : length (marksOf size n side) ≡ markCount
-  unfolding marksOf markRow
+  unfolding marksOf
   marksOf-length = markRow-length (isPoint size n side)
 
   pub marksOf-at : (c : ℕ) → c ≤ sideMax → getD (marksOf size n side) c 0 ≡ bit (isPoint size n side c)
-  unfolding marksOf markRow
+  unfolding marksOf
   marksOf-at = markRow-at (isPoint size n side)
 
 -- Only the first n sizes count.
 pub marksOf-sizes : (size other : ℕ → ℕ) (n side : ℕ) → ((k : ℕ) → k < n → size k ≡ other k) → marksOf size n side ≡ marksOf other n side
 unfolding marksOf isPoint
 marksOf-sizes size other n side same =
-    byIndex-same _ _ markCount
-    (λ c h. ap (λ (b : Bool). bit (elim (leb c side) as (λ x. Bool) [ true ↦ b | false ↦ false ])) (reaches-sizes size other n same c))
+    markRow-same (isPoint size n side) (isPoint other n side)
+    (λ c. ap (λ (b : Bool). elim (leb c side) as (λ x. Bool) [ true ↦ b | false ↦ false ]) (reaches-sizes size other n same c))
 
 -- The sums of the same sizes are the same.
 pub sum-over : (S R : ℕ → Type 0) → ((p : ℕ) → S p → R p) → (c : ℕ) → Sum S c → Sum R c

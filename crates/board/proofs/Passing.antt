@@ -8,10 +8,10 @@ use native.Mathlib.Nat.{add-zero, eq-or-lt-of-le}
 use lib.Dec.{leb, eqb}
 use Rattle.laws.specs.Inner.{Says}
 use Rattle.laws.proofs.Order.{le-or-lt, last-or-below}
-use Rattle.laws.proofs.Says.{says-no, says-false, says-iff, says-le, says-eq, says-and, says-or, says-same}
+use Rattle.laws.proofs.Says.{says-itself, says-no, says-false, says-iff, says-le, says-eq, says-and, says-or, says-same}
 use Rattle.laws.proofs.Below.{anyBelow-says}
 use Rattle.board.specs.Inner.{Size, reaches, isPoint, bit, isWithin, isSize, triedFrom, Rising, leads}
-use Rattle.board.proofs.Reaches.{says-itself, reaches-least}
+use Rattle.board.proofs.Reaches.{reaches-least}
 use Rattle.board.proofs.Marks.{isPoint-says}
 use Rattle.board.proofs.Steps.{Led, led-over, led-among, Stepped, steps-stay, steps-grow, steps-kept, IsReached, reaches-closed, size-reached, reached-next}
 

@@ -9,14 +9,12 @@ use native.Mathlib.Nat.{eq-or-lt-of-le}
 use lib.ListN.{length, getD, length-append, List·getD-eq-default, List·getD-append}
 use lib.Seq.{getD-at}
 use Rattle.laws.specs.Inner.{Says}
-use Rattle.laws.proofs.Says.{true≢false, says-iff, says-lt, says-eq, says-and, says-or}
+use Rattle.laws.proofs.Says.{true≢false, says-itself, says-iff, says-lt, says-eq, says-and, says-or}
 use Rattle.laws.proofs.Below.{anyBelow-says, anyBelow-same}
 use Rattle.laws.proofs.Order.{le-or-lt}
 use Rattle.cutting.specs.Points.{Sum, one, more}
+use Rattle.cutting.proofs.Points.{Apart, sum-apart}
 use Rattle.board.specs.Inner.{Size, makes, someMakes, reachesUpTo, reaches}
-
-pub says-itself : (b : Bool) → Says b (b ≡ true)
-says-itself b = record { means = λ e. e; found = λ e. e }
 
 -- Only the first n sizes count.
 someMakes-sizes : (made : ℕ → Bool) (size other : ℕ → ℕ) (n c : ℕ) → ((k : ℕ) → k < n → size k ≡ other k)
@@ -124,15 +122,14 @@ module _ (size : ℕ → ℕ) (n : ℕ) where
       sum (alone {k} b q) smaller = one (record { index = k; among = b; equal = q })
       sum (onTop {k} {r} b l q t) smaller = more (record { index = k; among = b; equal = refl }) (smaller r l t) q
 
-  sum-reaches : (c : ℕ) → Sum (Size size n) c → 1 ≤ c → reaches size n c ≡ true
-  sum-reaches c (one s) h = reaches-own c h .found (alone (s .among) (s .equal))
-  sum-reaches c (more {s} {r} z rest q) h = onTopOf (le-or-lt 1 s) (le-or-lt 1 r) (sum-reaches r rest)
+  sum-reaches : (most c : ℕ) → c ≤ most → Sum (Size size n) c → 1 ≤ c → reaches size n c ≡ true
+  sum-reaches zero c h s l = absurd (omega arith)
+  sum-reaches (suc most) c h s l = reaches-own c l .found (by (sum-apart c s l) (λ r b. sum-reaches most r (omega arith)))
     where
-      onTopOf : (1 ≤ s) ⊎ (s < 1) → (1 ≤ r) ⊎ (r < 1) → (1 ≤ r → reaches size n r ≡ true) → reaches size n c ≡ true
-      onTopOf (inr none) y made = let e : c ≡ r = omega arith in rw e (made (omega arith))
-      onTopOf (inl some) (inr none) made = reaches-own c h .found (alone (z .among) (omega (arith, z .equal)))
-      onTopOf (inl some) (inl rest) made = reaches-own c h .found (onTop (z .among) (omega arith) (omega (arith, z .equal)) (made rest))
+      by : Apart (Size size n) c → ((r : ℕ) → r < c → Sum (Size size n) r → 1 ≤ r → reaches size n r ≡ true) → Reached size n c
+      by (Apart.alone z) smaller = alone (z .among) (z .equal)
+      by (Apart.onTop {r = r} z rest g b e) smaller = onTop (z .among) b (omega (arith, z .equal)) (smaller r b rest g)
 
   -- The test says that c is a sum of one or more sizes (rule 3.1).
   pub reaches-says : (c : ℕ) → 1 ≤ c → Says (reaches size n c) (Sum (Size size n) c)
-  reaches-says c h = record { means = reaches-sum c c (omega arith); found = λ s. sum-reaches c s h }
+  reaches-says c h = record { means = reaches-sum c c (omega arith); found = λ s. sum-reaches c c (omega arith) s h }

@@ -8,9 +8,10 @@ use native.Mathlib.Omega.{arith}
 use native.Mathlib.Nat.{eq-or-lt-of-le}
 use native.Mathlib.Numerals.{add-one}
 use Rattle.laws.proofs.Order.{le-or-lt, last-or-below}
-use Rattle.cutting.specs.Points.{Sum, one, more}
+use Rattle.cutting.specs.Points.{one}
+use Rattle.cutting.proofs.Points.{sum-add, Apart, sum-apart}
 use Rattle.board.specs.Inner.{Size, reaches, triedFrom, Rising}
-use Rattle.board.proofs.Reaches.{Reached, alone, onTop, reaches-least, reaches-own, reaches-says}
+use Rattle.board.proofs.Reaches.{reaches-least, reaches-says}
 
 -- Sums of numbers of R are in R, and all are at least 1.
 pub record Closed (R : ℕ → Type 0) : Type 0 where
@@ -150,10 +151,6 @@ module _ {R : ℕ → Type 0} {last : ℕ} {step : ℕ → ℕ} {held : ℕ} (st
           }
 
 -- The sums of one or more sizes are such a set.
-sum-add : {S : ℕ → Type 0} {t u : ℕ} → Sum S t → Sum S u → Sum S (t + u)
-sum-add (one z) b = more z b refl
-sum-add {t = t} {u = u} (more {s} {r} z rest q) b = let e : t + u ≡ s + (r + u) = omega arith in more z (sum-add rest b) e
-
 module _ (size : ℕ → ℕ) (n : ℕ) where
   abbrev pub IsReached : ℕ → Type 0
   IsReached c = reaches size n c ≡ true
@@ -164,20 +161,22 @@ module _ (size : ℕ → ℕ) (n : ℕ) where
         least = reaches-least size n;
         add = λ s r x y. let a = reaches-least size n s x in
             let b = reaches-least size n r y in
-            reaches-says size n (s + r) (omega arith) .found (sum-add (reaches-says size n s a .means x) (reaches-says size n r b .means y));
+            reaches-says size n (s + r) (omega arith) .found (sum-add (reaches-says size n s a .means x) (reaches-says size n r b .means y) refl);
       }
 
   pub size-reached : (c : ℕ) → 1 ≤ c → Size size n c → IsReached c
   size-reached c h s = reaches-says size n c h .found (one s)
 
   reached-parts : (c : ℕ) → IsReached c → Size size n c ⊎ Parts IsReached c
-  reached-parts c x = by (reaches-own size n c (reaches-least size n c x) .means x)
+  reached-parts c x = by (sum-apart c (reaches-says size n c l .means x) l)
     where
-      by : Reached size n c → Size size n c ⊎ Parts IsReached c
-      by (alone {k} b e) = inl (record { index = k; among = b; equal = e })
-      by (onTop {k} {r} b l e t) =
-          let part = size-reached (size k) (omega arith) (record { index = k; among = b; equal = refl }) in
-          inr (record { first = size k; second = r; sum = e; inFirst = part; inSecond = t })
+      l : 1 ≤ c
+      l = reaches-least size n c x
+
+      by : Apart (Size size n) c → Size size n c ⊎ Parts IsReached c
+      by (Apart.alone z) = inl z
+      by (Apart.onTop {p = p} {r = r} z rest h b e) =
+          inr (record { first = p; second = r; sum = e; inFirst = size-reached p (omega arith) z; inSecond = reaches-says size n r h .found rest })
 
   -- The next number is reached exactly where a step up to half of it leads there from a number that is reached, or it is a size.
   pub reached-next : {last held : ℕ} {step : ℕ → ℕ} → Stepped IsReached last step held

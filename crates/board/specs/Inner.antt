@@ -135,15 +135,15 @@ isPoint size n side c = elim (leb c side) [ true ↦ reaches size n c | false �
 abbrev pub bit : Bool → ℕ
 bit b = cond b 1 0
 
--- The marks of a side of the sheet.
-unfoldable pub marksOf : (ℕ → ℕ) → ℕ → ℕ → List ℕ
-marksOf size n side = byIndex (λ c. bit (isPoint size n side c)) markCount
-
--- How they are found: the sizes are marked first, then each number from small to large by the steps, which are the sizes that no smaller ones reach.
-
 -- The marks of the numbers that pass a test.
 unfoldable pub markRow : (ℕ → Bool) → List ℕ
 markRow test = byIndex (λ c. bit (test c)) markCount
+
+-- The marks of a side of the sheet.
+unfoldable pub marksOf : (ℕ → ℕ) → ℕ → ℕ → List ℕ
+marksOf size n side = markRow (isPoint size n side)
+
+-- How they are found: the sizes are marked first, then each number from small to large by the steps, which are the sizes that no smaller ones reach.
 
 unfoldable pub markedBy : List ℕ → ℕ → (ℕ → Bool) → List ℕ
 markedBy board marks test = put board marks (markRow test)

@@ -15,6 +15,20 @@ sum-add {t = t} (Sum.one h) q e = Sum.more {t = t} h q (omega arith)
 sum-add {r = n} {t = t} (Sum.more {s = p} {r = m} h q e) w f =
     Sum.more {s = p} {r = m + n} {t = t} h (sum-add q w refl) (omega arith)
 
+-- How a sum of at least 1 begins: it is a size, or a size on top of a smaller such sum.
+pub data Apart (size : ℕ → Type 0) (t : ℕ) : Type 0 where
+  alone : size t → Apart size t
+  onTop : {p r : ℕ} → size p → Sum size r → 1 ≤ r → r < t → t ≡ p + r → Apart size t
+
+pub sum-apart : {size : ℕ → Type 0} (t : ℕ) → Sum size t → 1 ≤ t → Apart size t
+sum-apart t (Sum.one s) h = Apart.alone s
+sum-apart {size} t (Sum.more {s = p} {r = r} s rest e) h = by (le-or-lt 1 p) (le-or-lt 1 r) (sum-apart r rest)
+  where
+    by : (1 ≤ p) ⊎ (p < 1) → (1 ≤ r) ⊎ (r < 1) → (1 ≤ r → Apart size r) → Apart size t
+    by (inr none) y before = subst (Apart size) (omega arith) (before (omega arith))
+    by (inl some) (inr none) before = Apart.alone (subst size (omega arith) s)
+    by (inl some) (inl rests) before = Apart.onTop s rest rests (omega arith) e
+
 pub P-add : {lay : Lay} {a b c d : ℕ} → P lay a c → P lay b d → P lay (a + b) (c + d)
 P-add p q =
     record { sum = sum-add (p .sum) (q .sum) refl; within = omega arith; notZero = omega arith }
@@ -61,17 +75,11 @@ narrowed-height h d = narrowed-width h (turned d)
 
 -- A number in the range is a point exactly when a piece reaches it from 0 or from an earlier point; for Q, of the turned lay (rule 3.6).
 pub points-earlier : (lay : Lay) (a c : ℕ) → P lay a c ↔ ((1 ≤ c) × (c ≤ a) × FromEarlier lay a c)
-points-earlier lay a c = ((λ p. (p .notZero, p .within, earlier c (p .sum) (p .notZero) (p .within))), back)
+points-earlier lay a c = ((λ p. (p .notZero, p .within, earlier (p .within) (sum-apart c (p .sum) (p .notZero)))), back)
   where
-    earlier : (t : ℕ) → Sum (Width lay) t → 1 ≤ t → t ≤ a → FromEarlier lay a t
-    earlier t (Sum.one w) h l = FromEarlier.fromZero w
-    earlier t (Sum.more {s = s} {r = r} w rest e) h l = by (le-or-lt 1 s) (le-or-lt 1 r) (earlier r rest)
-      where
-        by : (1 ≤ s) ⊎ (s < 1) → (1 ≤ r) ⊎ (r < 1) → (1 ≤ r → r ≤ a → FromEarlier lay a r) → FromEarlier lay a t
-        by (inr none) y before = subst (FromEarlier lay a) (omega arith) (before (omega arith) (omega arith))
-        by (inl some) (inr none) before = FromEarlier.fromZero (subst (Width lay) (omega arith) w)
-        by (inl some) (inl rests) before =
-            FromEarlier.fromPoint w (record { sum = rest; within = omega arith; notZero = rests }) (omega arith) e
+    earlier : c ≤ a → Apart (Width lay) c → FromEarlier lay a c
+    earlier l (Apart.alone w) = FromEarlier.fromZero w
+    earlier l (Apart.onTop w rest h b e) = FromEarlier.fromPoint w (record { sum = rest; within = omega arith; notZero = h }) b e
 
     back : (1 ≤ c) × (c ≤ a) × FromEarlier lay a c → P lay a c
     back (h, l, FromEarlier.fromZero w) = record { sum = Sum.one w; within = l; notZero = h }

@@ -11,7 +11,7 @@ use Rattle.laws.specs.Below.{sumBelow}
 use Rattle.laws.specs.Inner.{numberGiven, allBelow, anyBelow, bestBelow, firstBelow, firstNumber, deep, toDepth}
 use Rattle.laws.specs.ByIndex.{byIndex}
 use Rattle.cutting.specs.Change.{added, corrected, removed}
-use Rattle.board.specs.Inner.{marksOf, isPoint, reaches, reachesUpTo, someMakes, makes, rowsOn, entriesOf, withSides, piecesBoard, withPoints, boardOf}
+use Rattle.board.specs.Inner.{marksOf, markRow, isPoint, reaches, reachesUpTo, someMakes, makes, rowsOn, entriesOf, withSides, piecesBoard, withPoints, boardOf}
 use Rattle.fill.specs.Inner.{worthOf, fittingValue, lineValue, lineAt, final, filled}
 use Rattle.cells.specs.Box.{countInBox, countInRow, isEmpty}
 use Rattle.cells.specs.Inner.{anyInBox, anyInRow, exceeds, tooMuch, redrawn, fits, emptied, emptiedWhere}
@@ -244,7 +244,7 @@ computed s c =
         cells = f .1 ∙ sym (given (emptied (s .width) (s .height) 1 1 t) t refl z)
 
 computes : Each Computes sheets
-unfolding run addedJob addedCells correctedJob correctedCells askedCells asked addRefused correctRefused removeRefused askRefused addRefusals correctRefusals removeRefusals askRefusals addTests correctTests removeTests askTests numberGiven accepted jobInRange piecesInRange pieceInRange allBelow withAdded withCorrected jobOf zeroJob piecesOf added corrected byIndex emptiedSize emptied emptiedWhere redrawn fits cellOf place recordOfPiece filledFor filled final deep toDepth worthOf fittingValue lineValue lineAt jobRows rowsOn boardOf withPoints piecesBoard withSides entriesOf put marksOf isPoint reaches reachesUpTo someMakes makes anyBelow bestBelow sumBelow countInBox countInRow isEmpty anyInBox anyInRow exceeds tooMuch planRefused planRefusals planTests planBytes summed body pointers block bytesOfHead bytesOfPieces bytesOfPiece bytes2 bytes4 encode node runningSum earning pieceAt firstBelow firstNumber twoCells suits firstPiece addsTo leastLine trimmedTo cutOut strikes ruled stepIn treeBy traced tracesBy traces checked framed sumAgrees agreed nodesRead judged judgedJob summedBytes blockBytes number2Of number4Of pieceFrom jobIn blockShape fromBlock isPiece isInside letterNode nodeAt withFirst thenRead bothParts partBy partAt bestValue bestBy exactValue exactly piecesAfter removed
+unfolding run addedJob addedCells correctedJob correctedCells askedCells asked addRefused correctRefused removeRefused askRefused addRefusals correctRefusals removeRefusals askRefusals addTests correctTests removeTests askTests numberGiven accepted jobInRange piecesInRange pieceInRange allBelow withAdded withCorrected jobOf zeroJob piecesOf added corrected byIndex emptiedSize emptied emptiedWhere redrawn fits cellOf place recordOfPiece filledFor filled final deep toDepth worthOf fittingValue lineValue lineAt jobRows rowsOn boardOf withPoints piecesBoard withSides entriesOf put marksOf markRow isPoint reaches reachesUpTo someMakes makes anyBelow bestBelow sumBelow countInBox countInRow isEmpty anyInBox anyInRow exceeds tooMuch planRefused planRefusals planTests planBytes summed body pointers block bytesOfHead bytesOfPieces bytesOfPiece bytes2 bytes4 encode node runningSum earning pieceAt firstBelow firstNumber twoCells suits firstPiece addsTo leastLine trimmedTo cutOut strikes ruled stepIn treeBy traced tracesBy traces checked framed sumAgrees agreed nodesRead judged judgedJob summedBytes blockBytes number2Of number4Of pieceFrom jobIn blockShape fromBlock isPiece isInside letterNode nodeAt withFirst thenRead bothParts partBy partAt bestValue bestBy exactValue exactly piecesAfter removed
 computes =
     let k1 = each K1 refl refl (omega arith) (omega arith) in
     let k2 = each K2 refl refl (omega arith) (omega arith) in

@@ -22,6 +22,9 @@ says-false s e p = true≢false (sym (s .found p) ∙ e)
 pub says-iff : {b : Bool} {P Q : Type 0} → P ↔ Q → Says b P → Says b Q
 says-iff i s = record { means = λ e. i .0 (s .means e); found = λ q. s .found (i .1 q) }
 
+pub says-itself : (b : Bool) → Says b (b ≡ true)
+says-itself b = record { means = λ e. e; found = λ e. e }
+
 pub says-le : (m n : ℕ) → Says (leb m n) (m ≤ n)
 says-le m n = record { means = leb-true m n; found = le-leb m n }
 

@@ -36,10 +36,9 @@ pub(crate) fn set_entries(board: &mut Board, first: usize, job: Job, measure: Me
     ensures { λ _. ⌜ length (now (board .exit)) ≡ places ⌝ }
     ensures { λ _. ⌜ now (board .exit) ≡ put (now (board .entry)) first (entriesOf measure job) ⌝ }
 {
-    let pieces = job.pieces;
     let count = job.count as usize;
     for k in 0..count {
-        board[first + k] = measure_of(pieces[k], measure);
+        board[first + k] = measure_of(job.pieces[k], measure);
     }
 }
 

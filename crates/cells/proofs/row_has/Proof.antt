@@ -35,7 +35,4 @@ returns : tie.Need-returns Inv-loop μ-loop
 returns c = let end : c .before .loop .i ≡ c .before .before .before .args .x = omega arith in rw (← end) (c .before .loop .inv .0)
 
 pub row-has-spec : {M : Type 1} → statement M
-row-has-spec =
-    tie.close
-    (tie.spec Inv-loop μ-loop (λ c. omega arith) (λ c. omega arith) (λ c. omega arith) loop-holds add-most (λ c. omega arith) (λ c κs. omega arith)
-    (λ c κs. search needs) (λ c. omega arith) (λ c. omega arith) loop-again returns)
+row-has-spec = tie.close (tie.spec Inv-loop μ-loop (λ c. omega arith) (λ c. omega arith) (λ c. omega arith) loop-holds add-most (λ c. omega arith) (λ c κs. omega arith) (λ c κs. search needs) (λ c. omega arith) (λ c. omega arith) loop-again returns)

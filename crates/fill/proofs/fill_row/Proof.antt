@@ -16,6 +16,4 @@ first-empty-requires : tie.Need-first-empty-requires
 first-empty-requires c κs = row-held (c .before .before .before .before .before .pre .0)
 
 pub fill-row-spec : {M : Type 1} → statement M
-fill-row-spec =
-    tie.close
-    (tie.spec row-has-empty-requires (λ c. search needs) returns first-empty-requires (λ c κs. search needs) (λ c. search needs) (λ c. search needs))
+fill-row-spec = tie.close (tie.spec row-has-empty-requires (λ c. search needs) returns first-empty-requires (λ c κs. search needs) (λ c. search needs) (λ c. search needs))

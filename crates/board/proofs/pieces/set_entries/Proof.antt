@@ -13,11 +13,11 @@ use Rattle.board.proofs.pieces.set_entries.Statement.{statement}
 use Rattle.board.proofs.pieces.set_entries.Tie as tie
 
 abbrev Inv-loop : tie.InvT-loop
-Inv-loop board₀ first measure pieces count k₀ board k =
-    (k ≤ count) × (length board ≡ length board₀) × (board ≡ put board₀ first (byIndex (λ i. measureOf measure (getD pieces i noRecord)) k))
+Inv-loop board₀ first measure job count k₀ board k =
+    (k ≤ count) × (length board ≡ length board₀) × (board ≡ put board₀ first (byIndex (λ i. measureOf measure (getD (job .pieces) i noRecord)) k))
 
 abbrev μ-loop : tie.MeasureT-loop
-μ-loop board₀ first measure pieces count k₀ board k = count - k
+μ-loop board₀ first measure job count k₀ board k = count - k
 
 loop-holds : tie.Need-loop-holds Inv-loop μ-loop
 loop-holds c = (omega arith, refl, put-start _ _ _)
@@ -30,8 +30,8 @@ loop-again c =
 returns : tie.Need-returns Inv-loop μ-loop
 unfolding entriesOf
 returns c =
-    let start = c .before .before .before .before in
-    let end : c .before .loop .k ≡ start .args .job .count = omega arith in
+    let start = c .before .before in
+    let end : c .before .loop .k ≡ start .args .t3 .count = omega arith in
     (omega arith, rw (← end) (c .before .loop .inv .2))
 
 pub set-entries-spec : {M : Type 1} → statement M

@@ -27,6 +27,4 @@ returns-2 c =
     box-filled _ _ _ _ (start .pre .0 .range) (at-layout .lay-out .ensures) (filled .0) (filled .1)
 
 pub fill-for-spec : {M : Type 1} → statement M
-fill-for-spec =
-    tie.close
-    (tie.spec (λ c κs. search needs) has-empty-requires (λ c. search needs) returns (λ c κs. search needs) fill-box-requires (λ c. search needs) returns-2)
+fill-for-spec = tie.close (tie.spec (λ c κs. search needs) has-empty-requires (λ c. search needs) returns (λ c κs. search needs) fill-box-requires (λ c. search needs) returns-2)

@@ -1,8 +1,8 @@
 /*
- * Finding the points by itself: the board's marks, C that marks, Herz's list
- * with its tail moved, and that list copied at each step.
+ * Finding the points by itself: on the library's board, and in C in the four
+ * ways of points.h.
  *
- *   alone agree                   all four find the same P and Q
+ *   alone agree                   all find the same P and Q
  *   alone count CASE ENGINE WORK  prepares the case; if WORK is 1, finds P and Q
  *   alone times                   the least of several runs, in microseconds
  *   alone stack                   stack in bytes
@@ -12,18 +12,19 @@
  * (alone/lib.rt.in), so that what is left is the points.
  */
 #include <stdio.h>
-#include <stdlib.h>
 #include <string.h>
 
+#include "jobs.h"
 #include "measure.h"
 #include "points.h"
 
 enum { SIDE = KHON_SIDE_MAX, RUNS = 25 };
 
-/* The board of crates/board: its two rows of marks are the last on it. */
-enum { MARKS = SIDE + 1, UP = 869 - MARKS, ACROSS = UP - MARKS };
+/* The board (crates/board/src/lib.rt): sides and count, three times 128 entries,
+   the marks of P and those of Q. */
+enum { MARKS = SIDE + 1, ACROSS = 3 + 3 * 128, UP = ACROSS + MARKS, PLACES = UP + MARKS };
 typedef struct {
-    uint16_t places[869];
+    uint16_t places[PLACES];
 } laid;
 laid board_with_points(khon_job job);
 laid board_without_points(khon_job job);
@@ -38,14 +39,18 @@ static void sheet(uint32_t width, uint32_t height) {
     job = (khon_job){(uint16_t)width, (uint16_t)height, 0, {{0, 0, 0}}};
 }
 
+static void add_piece(khon_piece piece) {
+    job.pieces[job.count++] = piece;
+}
+
 static void add(uint32_t width, uint32_t height) {
-    job.pieces[job.count++] = (khon_piece){(uint16_t)width, (uint16_t)height, 1};
+    add_piece((khon_piece){(uint16_t)width, (uint16_t)height, 1});
 }
 
 static void prepare_dense(void) {
     sheet(SIDE, SIDE);
     for (uint32_t i = 0; i < KHON_PIECES_MAX; i++)
-        add(11 + i * 29 % 61, 9 + i * 23 % 67);
+        add_piece(dense_piece(i));
 }
 
 static void prepare_all(void) {
@@ -77,13 +82,16 @@ static void prepare_twos(void) {
     add(2, 3);
 }
 
+static void prepare_evens(void) {
+    sheet(SIDE, SIDE);
+    for (uint32_t i = 0; i < 20; i++)
+        add(40 + 2 * i, 40 + 2 * i);
+}
+
 static void prepare_table_1(void) {
-    sheet(127, 98);
-    add(18, 65);
-    add(24, 27);
-    add(21, 13);
-    add(36, 17);
-    add(54, 20);
+    sheet(TABLE_1_WIDTH, TABLE_1_HEIGHT);
+    for (uint32_t i = 0; i < TABLE_1_PIECES; i++)
+        add_piece(table_1[i]);
 }
 
 static const struct {
@@ -95,6 +103,7 @@ static const struct {
     {"none", "240 by 240, 64 pieces too large: no position", prepare_none},
     {"late", "240 by 240, 64 pieces of 121 to 240: no sum of two", prepare_late},
     {"middle", "240 by 240, 64 pieces of 64 to 127", prepare_middle},
+    {"evens", "240 by 240, 20 pieces of 40, 42 .. 78: half reached", prepare_evens},
     {"twos", "240 by 240, one piece 2 by 3", prepare_twos},
     {"table-1", "127 by 98, 5 pieces (Herz, Table 1)", prepare_table_1},
 };
@@ -109,8 +118,12 @@ static void library_without(void) {
     board = board_without_points(job);
 }
 static void hand(void) {
-    marked_points(&job, 0, &p);
-    marked_points(&job, 1, &q);
+    stepped_points(&job, 0, &p);
+    stepped_points(&job, 1, &q);
+}
+static void passed(void) {
+    passed_points(&job, 0, &p);
+    passed_points(&job, 1, &q);
 }
 static void herz(void) {
     listed_points(&job, 0, &p);
@@ -128,6 +141,7 @@ static const struct {
     void (*with)(void), (*without)(void);
 } engines[] = {{"library", library_with, library_without},
                {"hand", hand, nothing},
+               {"passed", passed, nothing},
                {"herz", herz, nothing},
                {"copied", copied, nothing}};
 enum { ENGINES = sizeof engines / sizeof *engines };
@@ -192,6 +206,7 @@ static void stack_use(void) {
         }
         printf("%s | %zu | %zu\n", engines[k].name, with, without);
     }
+    printf("the board %zu, two lists of points %zu\n", sizeof board, sizeof p + sizeof q);
 }
 
 static int count(const char *name, const char *engine, int work) {

@@ -16,6 +16,7 @@
 #include <string.h>
 
 #include "hand.h"
+#include "jobs.h"
 #include "measure.h"
 
 enum { SIDE = KHON_SIDE_MAX, CELLS = SIDE * SIDE, RUNS = 7 };
@@ -39,13 +40,14 @@ typedef struct {
     khon_checked (*check)(const uint8_t *, size_t);
 } engine;
 
+enum { LIBRARY, HAND, HERZ, DULL, ENGINES };
+
 /* Only ask and plan find points; the dull scheme has ask alone. */
-static const engine engines[] = {
-    {"library", khon_open, khon_add, khon_correct, khon_remove, khon_ask, khon_plan, khon_check},
-    {"hand", hand_open, hand_add, hand_correct, hand_remove, hand_ask, hand_plan, hand_check},
-    {"herz", NULL, NULL, NULL, NULL, herz_ask, herz_plan, NULL},
-    {"dull", NULL, NULL, NULL, NULL, dull_ask, NULL, NULL}};
-enum { LIBRARY, HAND, ENGINES = sizeof engines / sizeof *engines };
+static const engine engines[ENGINES] = {
+    [LIBRARY] = {"library", khon_open, khon_add, khon_correct, khon_remove, khon_ask, khon_plan, khon_check},
+    [HAND] = {"hand", hand_open, hand_add, hand_correct, hand_remove, hand_ask, hand_plan, hand_check},
+    [HERZ] = {"herz", NULL, NULL, NULL, NULL, herz_ask, herz_plan, NULL},
+    [DULL] = {"dull", NULL, NULL, NULL, NULL, dull_ask, NULL, NULL}};
 
 /* ---- cases ---- */
 
@@ -70,8 +72,8 @@ static void open_sheet(uint32_t a, uint32_t b) {
     take(hand_open(a, b, cells, CELLS));
 }
 
-static void add(uint32_t p, uint32_t q, uint32_t v) {
-    take(hand_add(job, cells, CELLS, piece(p, q, v)));
+static void add(khon_piece added) {
+    take(hand_add(job, cells, CELLS, added));
 }
 
 static void correct(uint32_t k, uint32_t p, uint32_t q, uint32_t v) {
@@ -88,29 +90,23 @@ static khon_planned plan_with(const engine *e) {
                    job.height, file, sizeof file);
 }
 
-/* 64 pieces of many sizes: nearly all sides from 20 on are points. */
 static void prepare_dense(void) {
     open_sheet(SIDE, SIDE);
-    for (uint32_t i = 0; i < KHON_PIECES_MAX; i++) {
-        uint32_t p = 11 + i * 29 % 61, q = 9 + i * 23 % 67;
-        add(p, q, p * q + i * 7 % 13);
-    }
+    for (uint32_t i = 0; i < KHON_PIECES_MAX; i++)
+        add(dense_piece(i));
 }
 
 static void prepare_table_1(void) {
-    open_sheet(127, 98);
-    add(18, 65, 18 * 65);
-    add(24, 27, 24 * 27);
-    add(21, 13, 21 * 13);
-    add(36, 17, 36 * 17);
-    add(54, 20, 54 * 20);
+    open_sheet(TABLE_1_WIDTH, TABLE_1_HEIGHT);
+    for (uint32_t i = 0; i < TABLE_1_PIECES; i++)
+        add(table_1[i]);
 }
 
 static void prepare_sparse(void) {
     open_sheet(SIDE, SIDE);
-    add(61, 83, 61 * 83);
-    add(97, 55, 97 * 55);
-    add(74, 71, 74 * 71);
+    add(piece(61, 83, 61 * 83));
+    add(piece(97, 55, 97 * 55));
+    add(piece(74, 71, 74 * 71));
 }
 
 static void prepare_corrected(uint32_t p, uint32_t q) {
@@ -136,9 +132,9 @@ static void prepare_again(void) {
 /* Every square a piece of its own, 479 levels; the other pieces earn less. */
 static void open_squares(uint32_t pieces) {
     open_sheet(SIDE, SIDE);
-    add(1, 1, KHON_VALUE_MAX);
+    add(piece(1, 1, KHON_VALUE_MAX));
     for (uint32_t i = 1; i < pieces; i++)
-        add(1 + i, 1 + 3 * i % 64, 7);
+        add(piece(1 + i, 1 + 3 * i % KHON_PIECES_MAX, 7));
 }
 
 static void prepare_63(void) {
@@ -204,51 +200,68 @@ static khon_changed change_with(const engine *e, call which) {
     return e->remove(job, cells, CELLS, 1);
 }
 
-/* One call, and a number that depends on its whole answer. */
-static uint32_t work(const engine *e, call which) {
+/* What the last call answered; it was accepted. */
+typedef struct {
+    khon_job job;
+    khon_asked asked;
+    khon_planned planned;
+    khon_checked checked;
+} answer;
+static answer last;
+
+static void work(const engine *e, call which) {
     if (which == ASK) {
-        khon_asked asked = ask_with(e);
-        must(asked.refusal);
-        return asked.value;
+        last.asked = ask_with(e);
+        must(last.asked.refusal);
+    } else if (which == PLAN) {
+        last.planned = plan_with(e);
+        must(last.planned.refusal);
+    } else if (which == CHECK) {
+        last.checked = e->check(file, file_len);
+        must(last.checked.refusal);
+    } else {
+        khon_changed changed = change_with(e, which);
+        must(changed.refusal);
+        last.job = changed.job;
     }
-    if (which == PLAN) {
-        khon_planned planned = plan_with(e);
-        must(planned.refusal);
-        return planned.value + planned.length;
-    }
-    if (which == CHECK) {
-        khon_checked checked = e->check(file, file_len);
-        must(checked.refusal);
-        return checked.value + checked.note + checked.piece_area + checked.scrap_area;
-    }
-    khon_changed changed = change_with(e, which);
-    must(changed.refusal);
-    return changed.job.count + 100u * changed.job.pieces[0].width;
 }
 
 /* ---- the commands ---- */
 
-/* The same value, the same table and the same file from all engines. */
+/* What a call left: its answer, the table and the file. */
+typedef struct {
+    answer answer;
+    uint32_t cells[CELLS];
+    uint8_t file[sizeof file];
+} state;
+
+static void take_state(state *now) {
+    memset(now, 0, sizeof *now);
+    now->answer = last;
+    memcpy(now->cells, cells, sizeof *cells * job.width * job.height);
+    memcpy(now->file, file, sizeof file);
+}
+
+/* The dull scheme works every cell out, so it makes no count. */
 static int agree(void) {
-    static uint32_t first_cells[CELLS];
-    static uint8_t first_file[sizeof file];
+    static state first, other;
+    static uint8_t prepared_file[sizeof file];
     int bad = 0;
     for (int i = 0; i < CASES; i++) {
-        uint32_t first = 0;
         cases[i].prepare();
-        size_t in_use = sizeof *cells * job.width * job.height;
         memcpy(prepared_cells, cells, sizeof cells);
+        memcpy(prepared_file, file, sizeof file);
         for (int k = 0; k < ENGINES; k++) {
             if (!can(&engines[k], cases[i].which))
                 continue;
             memcpy(cells, prepared_cells, sizeof cells);
-            uint32_t answer = work(&engines[k], cases[i].which);
-            if (k == 0) {
-                first = answer;
-                memcpy(first_cells, cells, sizeof cells);
-                memcpy(first_file, file, sizeof file);
-            } else if (answer != first || memcmp(first_cells, cells, in_use) != 0 ||
-                       memcmp(first_file, file, sizeof file) != 0) {
+            memcpy(file, prepared_file, sizeof file);
+            memset(&last, 0, sizeof last);
+            work(&engines[k], cases[i].which);
+            if (k == DULL)
+                last.asked.worked = first.answer.asked.worked;
+            take_state(k == LIBRARY ? &first : &other);
+            if (k != LIBRARY && memcmp(&first, &other, sizeof first) != 0) {
                 printf("%s: %s differs from the library\n", cases[i].name, engines[k].name);
                 bad = 1;
             }
@@ -282,7 +295,7 @@ static void times(void) {
             for (int run = 0; run < RUNS; run++) {
                 memcpy(cells, prepared_cells, sizeof cells);
                 double start = microseconds();
-                (void)work(&engines[k], cases[i].which);
+                work(&engines[k], cases[i].which);
                 double took = microseconds() - start;
                 least = took < least ? took : least;
             }
@@ -353,7 +366,7 @@ static void stack_use(void) {
     };
     for (size_t i = 0; i < sizeof runs / sizeof *runs; i++) {
         printf("%s", runs[i].name);
-        for (measured = engines; measured < engines + 3; measured++) {
+        for (measured = engines; measured < engines + DULL; measured++) {
             if (!can(measured, runs[i].which)) {
                 printf(" | -");
                 continue;
@@ -387,7 +400,7 @@ int main(int count, char **words) {
         if (i >= 0 && k >= 0 && can(&engines[k], cases[i].which)) {
             cases[i].prepare();
             if (strcmp(words[4], "1") == 0)
-                printf("%u\n", work(&engines[k], cases[i].which));
+                work(&engines[k], cases[i].which);
             return 0;
         }
         return 3;

@@ -77,9 +77,11 @@ static uint32_t refuse_change(const khon_job *job, size_t cells_len) {
 }
 
 static void empty_where_fits(const khon_job *job, uint32_t *cells, khon_piece size) {
-    for (uint32_t w = size.height; w <= job->height; w++)
+    for (uint32_t w = size.height; w <= job->height; w++) {
+        uint32_t *row = cells + (size_t)(w - 1) * job->width;
         for (uint32_t u = size.width; u <= job->width; u++)
-            cells[(w - 1) * job->width + u - 1] = KHON_EMPTY;
+            row[u - 1] = KHON_EMPTY;
+    }
 }
 
 /* What stands behind the last piece comes back as zeros. */
@@ -140,13 +142,18 @@ khon_changed hand_remove(khon_job job, uint32_t *cells, size_t cells_len, uint32
 
 /* ---- ask ---- */
 
+/* Rows are looked through to their end, so that gcc makes vectors of it. */
 static int exceeds(const uint32_t *cells, uint32_t a, uint32_t x, uint32_t y) {
-    for (uint32_t w = 1; w <= y; w++)
-        for (uint32_t u = 1; u <= x; u++) {
-            uint32_t cell = cells[(w - 1) * a + u - 1];
-            if (cell != KHON_EMPTY && cell > u * w * 65535u)
-                return 1;
+    for (uint32_t w = 1; w <= y; w++) {
+        const uint32_t *row = cells + (size_t)(w - 1) * a;
+        uint32_t most = 0, found = 0;
+        for (uint32_t u = 0; u < x; u++) {
+            most += w * KHON_VALUE_MAX;
+            found |= (row[u] != KHON_EMPTY) & (most < row[u]);
         }
+        if (found)
+            return 1;
+    }
     return 0;
 }
 
@@ -170,10 +177,14 @@ static uint32_t worth(const khon_job *job, const uint32_t *cells, const points *
 }
 
 static int has_empty(const uint32_t *cells, uint32_t a, uint32_t x, uint32_t y) {
-    for (uint32_t w = 0; w < y; w++)
+    for (uint32_t w = 0; w < y; w++) {
+        const uint32_t *row = cells + (size_t)w * a;
+        uint32_t found = 0;
         for (uint32_t u = 0; u < x; u++)
-            if (cells[w * a + u] == KHON_EMPTY)
-                return 1;
+            found |= row[u] == KHON_EMPTY;
+        if (found)
+            return 1;
+    }
     return 0;
 }
 
@@ -210,7 +221,7 @@ static inline khon_asked ask_by(points_finder *find, const uint8_t *block, size_
 
 khon_asked hand_ask(const uint8_t *block, size_t block_len, uint32_t *cells, size_t cells_len,
                     uint32_t x, uint32_t y) {
-    return ask_by(marked_points, block, block_len, cells, cells_len, x, y);
+    return ask_by(stepped_points, block, block_len, cells, cells_len, x, y);
 }
 
 khon_asked herz_ask(const uint8_t *block, size_t block_len, uint32_t *cells, size_t cells_len,
@@ -370,7 +381,7 @@ static inline khon_planned plan_by(points_finder *find, const uint8_t *block, si
 
 khon_planned hand_plan(const uint8_t *block, size_t block_len, const uint32_t *cells,
                        size_t cells_len, uint32_t x, uint32_t y, uint8_t *file, size_t file_len) {
-    return plan_by(marked_points, block, block_len, cells, cells_len, x, y, file, file_len);
+    return plan_by(stepped_points, block, block_len, cells, cells_len, x, y, file, file_len);
 }
 
 khon_planned herz_plan(const uint8_t *block, size_t block_len, const uint32_t *cells,

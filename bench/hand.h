@@ -4,8 +4,8 @@
  * check. Written as a C programmer would who trusts the caller's pointers and
  * wants it quick without rearranging the rule; every refusal of rules 7.1 to
  * 7.13 is tested (in the dull scheme 7.1 to 7.3), since that is part of the work.
- * hand_ask and hand_plan mark the points, herz_ask and herz_plan keep Herz's
- * list of them (points.h).
+ * hand_ask and hand_plan find the points as the library does, herz_ask and
+ * herz_plan in Herz's list (points.h).
  */
 #ifndef HAND_H
 #define HAND_H

@@ -12,7 +12,32 @@ static uint32_t size_of(const khon_job *job, int tall, uint32_t i) {
 
 /* ---- marks ---- */
 
-void marked_points(const khon_job *job, int tall, points *found) {
+static int is_led(const uint8_t *marks, const uint16_t *steps, uint32_t held, uint32_t c) {
+    for (uint32_t j = 0; j < held && 2u * steps[j] <= c; j++)
+        if (marks[c - steps[j]])
+            return 1;
+    return 0;
+}
+
+void stepped_points(const khon_job *job, int tall, points *found) {
+    uint8_t marks[KHON_SIDE_MAX + 1] = {0};
+    uint16_t steps[KHON_SIDE_MAX];
+    uint32_t side = side_of(job, tall), held = 0;
+    for (uint32_t i = 0; i < job->count; i++)
+        if (size_of(job, tall, i) <= side)
+            marks[size_of(job, tall, i)] = 1;
+    found->count = 0;
+    for (uint32_t c = 1; c <= side; c++) {
+        if (is_led(marks, steps, held, c))
+            marks[c] = 1;
+        else if (marks[c])
+            steps[held++] = (uint16_t)c;
+        if (marks[c])
+            found->at[found->count++] = (uint16_t)c;
+    }
+}
+
+void passed_points(const khon_job *job, int tall, points *found) {
     uint8_t reached[KHON_SIDE_MAX + 1] = {1};
     uint32_t side = side_of(job, tall);
     found->count = 0;

@@ -7,7 +7,6 @@
  * none is ever tried.
  */
 #include <khonvertseg.h>
-#include <stdlib.h>
 #include <string.h>
 
 #include "../bench/points.h"
@@ -84,13 +83,9 @@ static void random_jobs(unsigned jobs, uint32_t pieces, uint32_t most) {
     report(bad == 0, "%u random jobs of %u pieces up to %u", jobs, pieces, most);
 }
 
-int main(void) {
+/* 64 pieces, and the positions that they reach. */
+static void full_jobs(void) {
     uint32_t i;
-    sheet(SIDE, SIDE);
-    found("no piece", 0, 0);
-    add(SIDE, SIDE);
-    found("one piece of the sheet's size", 0, 0);
-
     sheet(SIDE, SIDE);
     for (i = 0; i < KHON_PIECES_MAX; i++)
         add(KHON_PIECES_MAX - i, 1 + i);
@@ -121,17 +116,28 @@ int main(void) {
     for (i = 1; i <= KHON_PIECES_MAX; i++)
         add(2 * i, 3 * i);
     found("64 pieces, multiples of 2 and of 3", 60, 40);
+}
+
+static void small_jobs(void) {
+    sheet(SIDE, SIDE);
+    found("no piece", 0, 0);
+    add(SIDE, SIDE);
+    found("one piece of the sheet's size", 0, 0);
 
     sheet(SIDE - 1, 1);
     add(7, 1);
     add(11, 1);
     add(14, 5);
     found("7, 11 and 14 on 239 by 1", 89, 0);
+}
 
+int main(void) {
+    small_jobs();
+    full_jobs();
     random_jobs(60, 1, 40);
     random_jobs(60, 5, 90);
     random_jobs(60, 20, 150);
-    random_jobs(60, 64, 300);
-    random_jobs(60, 64, KHON_SIZE_MAX);
+    random_jobs(60, KHON_PIECES_MAX, 300);
+    random_jobs(60, KHON_PIECES_MAX, KHON_SIZE_MAX);
     return report_end();
 }

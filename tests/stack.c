@@ -1,8 +1,8 @@
 /*
  * Every call on a thread with the stack that the header names for it (or the
- * least that a thread may have), and
- * what the thread takes for itself. The stack has a guard page below it, and
- * is painted, so that what a call used is seen too.
+ * least that a thread may have), and what the thread takes for itself. The
+ * stack has a guard page below it, and is painted, so that what a call used is
+ * seen too.
  */
 #define _GNU_SOURCE
 #include <khonvertseg.h>
@@ -90,7 +90,7 @@ static void run_check(void) {
 static void open_with(unsigned pieces, unsigned least) {
     job = khon_open(SIDE, SIDE, cells, CELLS).job;
     for (unsigned k = 0; k < pieces; k++)
-        job = khon_add(job, cells, CELLS, (khon_piece){(uint16_t)(least + k), (uint16_t)(least + 3 * k % 64), 7}).job;
+        job = khon_add(job, cells, CELLS, (khon_piece){(uint16_t)(least + k), (uint16_t)(least + 3 * k % KHON_PIECES_MAX), 7}).job;
 }
 
 /* 479 levels, whatever the leaves: the deeper part of each line is the first or

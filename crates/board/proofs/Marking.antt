@@ -62,7 +62,7 @@ module _ {board : List ℕ} {sizes marks side : ℕ} (ready : Markable board siz
       ∙ (put-set board marks (markRow test) 0 row-fits at v (omega (arith, markRow-length test)) ∙ ap (put board marks) (markRow-set test other at h same f))
 
 -- The pass at `last`: the marks, and the steps so far.
-pub record Passing (board : List ℕ) (sizes marks side last : ℕ) (now steps : List ℕ) (held : ℕ) : Type 0 where
+pub record PassAt (board : List ℕ) (sizes marks side last : ℕ) (now steps : List ℕ) (held : ℕ) : Type 0 where
   pub marked : now ≡ markedBy board marks (passed (entryAt board sizes) (countOn board) side last)
   pub stepped : Stepped (IsReached (entryAt board sizes) (countOn board)) last (stepAt steps) held
   pub long : length steps ≡ markCount
@@ -93,7 +93,7 @@ module _ {board : List ℕ} {sizes marks side : ℕ} (ready : Markable board siz
           marking-same board marks (isSize size k side) (isSize size (k + 1) side) e
           (λ c. isSize-other size side k c (λ i r. says-false w refl (subst (λ (m : ℕ). (1 ≤ m) × (m ≤ side)) (i ∙ sym is) r)))
 
-  passing-start : {now steps : List ℕ} → now ≡ withSizes board sizes marks side → length steps ≡ markCount → Passing board sizes marks side 0 now steps 0
+  passing-start : {now steps : List ℕ} → now ≡ withSizes board sizes marks side → length steps ≡ markCount → PassAt board sizes marks side 0 now steps 0
   unfolding withSizes
   passing-start e l =
       record {
@@ -102,12 +102,12 @@ module _ {board : List ℕ} {sizes marks side : ℕ} (ready : Markable board siz
         long = l;
       }
 
-  pub passing-end : {last held : ℕ} {now steps : List ℕ} → Passing board sizes marks side last now steps held → last ≡ side
+  pub passing-end : {last held : ℕ} {now steps : List ℕ} → PassAt board sizes marks side last now steps held → last ≡ side
       → now ≡ put board marks (marksOf size n side)
   unfolding markedBy marksOf markRow
   passing-end p q = marking-same board marks (passed size n side side) (isPoint size n side) (rw q at (p .marked)) (passed-all size n side)
 
-  module _ {last held : ℕ} {now steps : List ℕ} (p : Passing board sizes marks side last now steps held) where
+  module _ {last held : ℕ} {now steps : List ℕ} (p : PassAt board sizes marks side last now steps held) where
     mark-is : (m : ℕ) → m ≤ sideMax → getD now (marks + m) 0 ≡ bit (passed size n side last m)
     mark-is m h = ap (λ (b : List ℕ). getD b (marks + m) 0) (p .marked) ∙ marked-at ready (passed size n side last) m h
 
@@ -115,11 +115,11 @@ module _ {board : List ℕ} {sizes marks side : ℕ} (ready : Markable board siz
     made h m l = bit-read (passed size n side last m) (mark-is m (omega (arith, ready .within))) ∙ passed-upto size n side last m l
 
 -- The loop knows the board as it was when the sizes had been marked: the pass at `last`, from whichever board that was.
-pub record Passes (sized : List ℕ) (sizes marks side last : ℕ) (now steps : List ℕ) (held : ℕ) : Type 0 where
+pub record PassFrom (sized : List ℕ) (sizes marks side last : ℕ) (now steps : List ℕ) (held : ℕ) : Type 0 where
   pub from : (board : List ℕ) → Markable board sizes marks side → sized ≡ withSizes board sizes marks side
-      → Passing board sizes marks side last now steps held
+      → PassAt board sizes marks side last now steps held
 
-pub passes-start : {sized steps : List ℕ} {sizes marks side : ℕ} → length steps ≡ markCount → Passes sized sizes marks side 0 sized steps 0
+pub passes-start : {sized steps : List ℕ} {sizes marks side : ℕ} → length steps ≡ markCount → PassFrom sized sizes marks side 0 sized steps 0
 passes-start l = record { from = λ board ready e. passing-start ready e l }
 
 -- One turn, with the code's last + 1: `led` is whether a step leads there, `own` the mark so far.
@@ -127,8 +127,8 @@ module _ {sizes marks side last held : ℕ} {now steps : List ℕ} {led : Bool} 
     (was : own ≡ getD now (marks + (last + 1)) 0)
     (search : led ≡ leads (markAt now marks) (stepAt steps) held (last + 1)) (becomes : mark ≡ cond led 1 own) (noted : new ≡ last + 1)
     (count : held' ≡ cond led held (held + own)) where
-  passing-more : {board : List ℕ} → Markable board sizes marks side → Passing board sizes marks side last now steps held
-      → Passing board sizes marks side (last + 1) (set now (marks + (last + 1)) mark) (set steps held new) held'
+  passing-more : {board : List ℕ} → Markable board sizes marks side → PassAt board sizes marks side last now steps held
+      → PassAt board sizes marks side (last + 1) (set now (marks + (last + 1)) mark) (set steps held new) held'
   passing-more {board} ready p =
       record {
         marked =
@@ -152,6 +152,6 @@ module _ {sizes marks side last held : ℕ} {now steps : List ℕ} {led : Bool} 
       is : own ≡ bit (passed s k side last (last + 1))
       is = was ∙ mark-is ready p (last + 1) (omega (arith, ready .within))
 
-  pub passes-more : {sized : List ℕ} → Passes sized sizes marks side last now steps held
-      → Passes sized sizes marks side (last + 1) (set now (marks + (last + 1)) mark) (set steps held new) held'
+  pub passes-more : {sized : List ℕ} → PassFrom sized sizes marks side last now steps held
+      → PassFrom sized sizes marks side (last + 1) (set now (marks + (last + 1)) mark) (set steps held new) held'
   passes-more p = record { from = λ board ready e. passing-more ready (p .from board ready e) }

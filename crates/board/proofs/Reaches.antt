@@ -23,7 +23,7 @@ unfolding someMakes
 someMakes-sizes made size other n c h = anyBelow-same _ _ n (λ k b. ap (λ (s : ℕ). makes made s c) (h k b))
 
 -- 0 is no point (rule 3.3).
-pub reaches-zero : (size : ℕ → ℕ) (n : ℕ) → reaches size n 0 ≡ false
+reaches-zero : (size : ℕ → ℕ) (n : ℕ) → reaches size n 0 ≡ false
 unfolding reaches reachesUpTo
 reaches-zero size n = refl
 
@@ -59,11 +59,11 @@ module _ (size : ℕ → ℕ) (n : ℕ) where
   upTo-next c = getD-at (reachesUpTo size n c) _ [] false (suc c) (upTo-length c)
 
 -- A size makes c exactly when it is c, or is smaller and what it leaves is made.
-pub makes-says : (made : ℕ → Bool) (s c : ℕ) → Says (makes made s c) ((s ≡ c) ⊎ ((s < c) × (made (c - s) ≡ true)))
+makes-says : (made : ℕ → Bool) (s c : ℕ) → Says (makes made s c) ((s ≡ c) ⊎ ((s < c) × (made (c - s) ≡ true)))
 unfolding makes
 makes-says made s c = says-or (says-eq s c) (says-and (says-lt s c) (says-itself (made (c - s))))
 
-pub someMakes-says : (made : ℕ → Bool) (size : ℕ → ℕ) (n c : ℕ) → Says (someMakes made size n c) ((k : ℕ) × (k < n) × (makes made (size k) c ≡ true))
+someMakes-says : (made : ℕ → Bool) (size : ℕ → ℕ) (n c : ℕ) → Says (someMakes made size n c) ((k : ℕ) × (k < n) × (makes made (size k) c ≡ true))
 unfolding someMakes
 someMakes-says made size n c = anyBelow-says (λ k. makes made (size k) c) n
 
@@ -81,7 +81,7 @@ module _ (size other : ℕ → ℕ) (n : ℕ) (same : (k : ℕ) → k < n → si
   reaches-sizes c = ap (λ (l : List Bool). getD l c false) (upTo-sizes c)
 
 -- How c is reached: by a size that is c, or by a size and a smaller number that is reached.
-pub data Reached (size : ℕ → ℕ) (n c : ℕ) : Type 0 where
+data Reached (size : ℕ → ℕ) (n c : ℕ) : Type 0 where
   alone : {k : ℕ} → k < n → size k ≡ c → Reached size n c
   onTop : {k r : ℕ} → k < n → r < c → c ≡ size k + r → reaches size n r ≡ true → Reached size n c
 
@@ -95,7 +95,7 @@ module _ (size : ℕ → ℕ) (n : ℕ) where
       }
 
   -- The own equation of `reaches`.
-  pub reaches-own : (c : ℕ) → 1 ≤ c → Says (reaches size n c) (Reached size n c)
+  reaches-own : (c : ℕ) → 1 ≤ c → Says (reaches size n c) (Reached size n c)
   reaches-own zero h = absurd (omega arith)
   reaches-own (suc c) h = rw upTo-next (says-iff (means, found) (someMakes-says made size n (suc c)))
     where

@@ -143,7 +143,7 @@ markRow test = byIndex (λ c. bit (test c)) markCount
 unfoldable pub marksOf : (ℕ → ℕ) → ℕ → ℕ → List ℕ
 marksOf size n side = markRow (isPoint size n side)
 
--- How they are found: the sizes are marked first, then each number from small to large by the steps, which are the sizes that no smaller ones reach.
+-- How they are found: the sizes are marked first, then each number from small to large by the steps, which are the sizes that no step before them leads to.
 
 unfoldable pub markedBy : List ℕ → ℕ → (ℕ → Bool) → List ℕ
 markedBy board marks test = put board marks (markRow test)

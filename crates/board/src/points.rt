@@ -83,7 +83,7 @@ fn held_after(held: usize, led: bool, own: u16) -> usize
 }
 
 // Marks each number up to `side` that is a sum of one or more sizes, each as often as one likes (rules 3.1 and 3.2), from small to
-// large. A step is a size that no smaller sizes reach: whatever another size leads to, they do.
+// large. A step is a size that no step before it leads to: whatever such a size would lead to, they do.
 fn mark(board: &mut Board, sizes: usize, marks: usize, side: usize)
     requires { ⌜ Markable (now board) sizes marks side ⌝ }
     ensures { λ _. ⌜ now (board .exit) ≡ put (now (board .entry)) marks (marksOf (entryAt (now (board .entry)) sizes) (countOn (now (board .entry))) side) ⌝ }

@@ -85,7 +85,7 @@ pub anyInRow-none : (w : ℕ) (test : ℕ → ℕ → Bool) → anyInRow 0 w tes
 unfolding anyInRow
 anyInRow-none w test = anyBelow-none _
 
-pub anyInRow-more : (i w : ℕ) (test : ℕ → ℕ → Bool) → anyInRow (i + 1) w test ≡ anyInRow i w test || test (i + 1) w
+anyInRow-more : (i w : ℕ) (test : ℕ → ℕ → Bool) → anyInRow (i + 1) w test ≡ anyInRow i w test || test (i + 1) w
 unfolding anyInRow
 anyInRow-more i w test = anyBelow-more (λ k. test (suc k) w) i ∙ ap (λ u. anyInRow i w test || test u w) (sym (add-one i))
 
@@ -93,7 +93,7 @@ anyInRow-more i w test = anyBelow-more (λ k. test (suc k) w) i ∙ ap (λ u. an
 pub column-more : (i w : ℕ) {m : ℕ} → m ≡ i * w * valueMax → m + w * valueMax ≡ (i + 1) * w * valueMax
 column-more i w e = omega (arith, add-mul i 1 w)
 
--- The same for a walk along row w that looks for a sought cell: the next one has the number v and may earn m.
+-- One column more, for a walk along row w that looks for a sought cell: the next one has the number v and may earn m.
 pub row-sought : {found here : Bool} (e : Bool) (a : ℕ) (t : List ℕ) (i w : ℕ) {v m : ℕ} → found ≡ anyInRow i w (sought e a t) → here ≡ soughtIn e v m
     → v ≡ cellOf a t (i + 1) w → m ≡ (i + 1) * w * valueMax → (found || here) ≡ anyInRow (i + 1) w (sought e a t)
 unfolding sought

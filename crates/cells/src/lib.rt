@@ -110,7 +110,7 @@ fn box_has(t: &[u32], a: usize, x: usize, y: usize, empty: bool) -> bool
     false
 }
 
-// The same for columns 1 to x of row w. No exit before the row's end, and 32 bits throughout: so the loop becomes vectors.
+// The same for columns 1 to x of row w. No exit before the row's end, and numbers of 32 bits: so the loop becomes vectors.
 // What a cell may earn runs along, a column's worth at each step; it is at most 3,774,816,000.
 fn row_has(t: &[u32], a: usize, x: usize, w: usize, empty: bool) -> bool
     requires { ⌜ Holds a w (now t) ⌝ }

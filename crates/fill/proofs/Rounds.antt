@@ -127,7 +127,7 @@ module _ (rows : Rows) (a b x w : ℕ) (t : List ℕ) (ready : RowReady rows a b
       → m + r ≤ i + 1
   row-within e f g = subst (λ (k : ℕ). k ≤ i + 1) (sym (row-count e f g)) (countInRow-bound (i + 1) w (isEmpty a t))
 
--- Looking for the first empty cell of a row.
+-- A row that is ready can be looked through for an empty cell, and for the first one.
 pub row-held : {rows : Rows} {a b x w : ℕ} {t : List ℕ} → RowReady rows a b x w t → Holds a w t × (x ≤ a)
 row-held {w = w} ready = (holds-lower w (ready .holds) (ready .inside .heightLeast) (ready .inside .heightMost), ready .inside .widthMost)
 

@@ -2,13 +2,13 @@
 use Prim.Native.Nat.{_-_, _≤_}
 use mathlib.Core.Path.{refl}
 use native.Mathlib.Omega.{arith}
-use Rattle.board.proofs.Marking.{Passes, passes-start, passes-more, passing-end}
+use Rattle.board.proofs.Marking.{PassFrom, passes-start, passes-more, passing-end}
 use Rattle.board.proofs.points.mark.Statement.{statement}
 use Rattle.board.proofs.points.mark.Tie as tie
 
 abbrev Inv-loop : tie.InvT-loop
 Inv-loop board₀ sizes marks side steps₀ held₀ last₀ board steps held last =
-    (last ≤ side) × (held ≤ last) × Passes board₀ sizes marks side last board steps held
+    (last ≤ side) × (held ≤ last) × PassFrom board₀ sizes marks side last board steps held
 
 abbrev μ-loop : tie.MeasureT-loop
 μ-loop board₀ sizes marks side steps₀ held₀ last₀ board steps held last = side - last

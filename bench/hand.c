@@ -77,11 +77,10 @@ static uint32_t refuse_change(const khon_job *job, size_t cells_len) {
 }
 
 static void empty_where_fits(const khon_job *job, uint32_t *cells, khon_piece size) {
-    for (uint32_t w = size.height; w <= job->height; w++) {
-        uint32_t *row = cells + (size_t)(w - 1) * job->width;
-        for (uint32_t u = size.width; u <= job->width; u++)
-            row[u - 1] = KHON_EMPTY;
-    }
+    size_t a = job->width, b = job->height;
+    for (size_t w = size.height; w <= b; w++)
+        for (size_t u = size.width; u <= a; u++)
+            cells[(w - 1) * a + u - 1] = KHON_EMPTY;
 }
 
 /* What stands behind the last piece comes back as zeros. */

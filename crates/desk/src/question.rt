@@ -1,6 +1,8 @@
 // Ask: fills the box of the question and answers its last cell, with the number of cells worked out.
 ghost use mathlib.Core.Path.{_≡_};
 ghost use Rattle.cutting.specs.Piece.{Inside};
+ghost use Rattle.job.specs.Range.{JobInRange};
+ghost use Rattle.board.specs.Inner.{blank, boardOf};
 ghost use Rattle.cells.specs.Cells.{cellOf};
 ghost use Rattle.cells.specs.Box.{isEmpty, countInBox};
 ghost use Rattle.fill.specs.Filled.{Bounded};
@@ -12,6 +14,15 @@ use board::Board;
 use board::PLACES;
 use fields::cast::wide;
 use job::Job;
+
+// The board of a job, laid out. A call of its own: the copy of the job that it lends is gone before the box is filled.
+fn lay_out(board: &mut Board, job: Job)
+    requires { ⌜ JobInRange job ⌝ }
+    requires { ⌜ now board ≡ blank ⌝ }
+    ensures { λ _. ⌜ now (board .exit) ≡ boardOf job ⌝ }
+{
+    board::lay_out(board, job);
+}
 
 // Fills the box x by y: the board is laid out once for the whole box, and not at all where no cell is empty.
 fn fill_for(job: Job, t: &mut [u32], x: usize, y: usize) -> u32
@@ -25,7 +36,7 @@ fn fill_for(job: Job, t: &mut [u32], x: usize, y: usize) -> u32
         return 0;
     }
     let mut board: Board = [0; PLACES];
-    board::lay_out(&mut board, job);
+    lay_out(&mut board, job);
     fill::fill_box(t, &board, x, y)
 }
 

@@ -1,9 +1,11 @@
 // The call plan: the file of the tree for a rectangle, written into a lent buffer. It has no `requires`.
 // refusal.rt: the list of refusals; file.rt: the file's parts.
+ghost use mathlib.Core.Path.{_≡_};
+ghost use Rattle.job.specs.Range.{JobInRange};
+ghost use Rattle.board.specs.Inner.{blank, boardOf};
 ghost use Rattle.plan.specs.Inner.{PlanPromise};
 use board::Board;
 use board::PLACES;
-use board::lay_out;
 use fields::cast::wide;
 use job::Job;
 use tracer::FREE;
@@ -16,6 +18,15 @@ mod refusal;
 pub enum Planned {
     Written(u32, u32),
     Refused(u32),
+}
+
+// The board of a job, laid out. A call of its own: the copy of the job that it lends is gone before the file is written.
+fn lay_out(board: &mut Board, job: Job)
+    requires { ⌜ JobInRange job ⌝ }
+    requires { ⌜ now board ≡ blank ⌝ }
+    ensures { λ _. ⌜ now (board .exit) ≡ boardOf job ⌝ }
+{
+    board::lay_out(board, job);
 }
 
 // Reads the table and writes the plan file of x by y at the start of o.

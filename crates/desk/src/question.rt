@@ -15,7 +15,7 @@ use board::PLACES;
 use fields::cast::wide;
 use job::Job;
 
-// The board of a job, laid out. A call of its own: the copy of the job that it lends is gone before the box is filled.
+// Lays the board of a job out. A call of its own, so that the stack of the job's copy is free again before the box is filled (decision 42).
 fn lay_out(board: &mut Board, job: Job)
     requires { ⌜ JobInRange job ⌝ }
     requires { ⌜ now board ≡ blank ⌝ }

@@ -20,7 +20,7 @@ pub enum Planned {
     Refused(u32),
 }
 
-// The board of a job, laid out. A call of its own: the copy of the job that it lends is gone before the file is written.
+// Lays the board of a job out. A call of its own, so that the stack of the job's copy is free again before the file is written (decision 42).
 fn lay_out(board: &mut Board, job: Job)
     requires { ⌜ JobInRange job ⌝ }
     requires { ⌜ now board ≡ blank ⌝ }

@@ -17,7 +17,6 @@ use Rattle.cutting.specs.Limits.{side_max, pieces_max}
 use Rattle.cutting.specs.Piece.{Inside}
 use Rattle.cells.specs.Cells.{cell_of}
 use Rattle.cells.specs.Inner.{exceeds, any_in_box, Holds}
-use Rattle.laws.proofs.Tests.{not_false}
 use Rattle.cells.proofs.Places.{area_fits, holds_lower}
 use Rattle.cells.proofs.Box.{any_in_box_says, exceeds_says}
 use Rattle.fill.specs.Filled.{Bounded}
@@ -46,14 +45,14 @@ bounded_says a t x y =
     (says_not (any_in_box_says x y (exceeds a t)))
 
 -- A job in range has a sheet of at most 240 by 240 cells.
-pub sides_fit : (job : Job) {r : Bool} {m n : ℕ} → r ≡ job_in_range job → not r ≡ false → m ≡ job.width → n ≡ job.height → m * n ≤ side_max * side_max
+pub sides_fit : (job : Job) {r : Bool} {m n : ℕ} → r ≡ job_in_range job → r ≡ true → m ≡ job.width → n ≡ job.height → m * n ≤ side_max * side_max
 sides_fit job e h f g =
-    let range = (job_says job).means (sym e ∙ not_false h) in
+    let range = (job_says job).means (sym e ∙ h) in
     area_fits (omega (arith, range.width_most)) (omega (arith, range.height_most))
 
-pub open_fits : (a b : ℕ) {r : Bool} → r ≡ (within a side_max && within b side_max) → not r ≡ false → a * b ≤ side_max * side_max
+pub open_fits : (a b : ℕ) {r : Bool} → r ≡ (within a side_max && within b side_max) → r ≡ true → a * b ≤ side_max * side_max
 open_fits a b e h =
-    let i = (inside_says a b side_max side_max).means (sym e ∙ not_false h) in
+    let i = (inside_says a b side_max side_max).means (sym e ∙ h) in
     area_fits i.width_most i.height_most
 
 -- The tests of each call say the facts of its list, so that the number it computes is exactly the one that the list gives.
@@ -127,9 +126,9 @@ usable_box job t x y u i g =
     subst (λ (m : ℕ). Holds m y t × (x ≤ m)) (sym g) (holds_lower y (usable_holds job t u) i.height_least i.height_most, i.width_most)
 
 pub box_holds : (job : Job) (t : List ℕ) (x y : ℕ) {first a : ℕ} {r : Bool} → first ≡ job_refused job t → first ≡ 0
-    → r ≡ (within x job.width && within y job.height) → not r ≡ false → a ≡ job.width → Holds a y t × (x ≤ a)
+    → r ≡ (within x job.width && within y job.height) → r ≡ true → a ≡ job.width → Holds a y t × (x ≤ a)
 box_holds job t x y e z f h g =
-    usable_box job t x y (usable_of job t e z) ((inside_says x y job.width job.height).means (sym f ∙ not_false h)) g
+    usable_box job t x y (usable_of job t e z) ((inside_says x y job.width job.height).means (sym f ∙ h)) g
 
 pub box_test : (job : Job) (t : List ℕ) (x y : ℕ) {a : ℕ} {r : Bool} → r ≡ any_in_box x y (exceeds a t) → a ≡ job.width
     → r ≡ any_in_box x y (exceeds job.width t)

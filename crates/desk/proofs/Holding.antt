@@ -55,7 +55,7 @@ box_filled job t x y {board = board} range e h k =
     (h ∙ ap (λ (m : ℕ). count_in_box x y (is_empty m t)) wide, k ∙ (λ i. filled (rows_on (e i)) (wide i) (high i) x y t))
 
 -- A box without an empty cell, looked for with the code's width, is as it was, and nothing is counted.
-pub box_still : (job : Job) (t : List ℕ) (x y : ℕ) {a : ℕ} {r : Bool} → a ≡ job.width → r ≡ any_in_box x y (is_empty a t) → not r ≡ true
+pub box_still : (job : Job) (t : List ℕ) (x y : ℕ) {a : ℕ} {r : Bool} → a ≡ job.width → r ≡ any_in_box x y (is_empty a t) → r ≡ false
     → (0 ≡ count_in_box x y (is_empty job.width t)) × (t ≡ filled_for job t x y)
 unfolding filled_for
 box_still job t x y {a = a} wide e none =

@@ -1,4 +1,6 @@
 // The fields of a plan file: little-endian numbers of two and four bytes, read and written, and the running sum.
+#![tactic(auto)]
+
 ghost use Rattle.std.specs.Prelude.{◌≡◌, ◌+◌, ◌/◌, ◌%◌, ◌≤◌, length};
 ghost use Rattle.laws.specs.Put.{put};
 ghost use Rattle.fields.specs.Number.{joined, joined_halves, number2_of, number4_of, bytes2, bytes4};

@@ -1,4 +1,5 @@
 // The program: a job block on standard input, the listing on standard output. Its work is `program::run`.
+#![tactic(auto)]
 use program::TEXT;
 
 // One byte more than the longest block has; what comes after it changes nothing (`input_enough` of `program`).

@@ -13,7 +13,6 @@ use Rattle.laws.specs.ByIndex.{by_index}
 use Rattle.laws.specs.Put.{put}
 use Rattle.laws.proofs.Order.{le_or_lt}
 use Rattle.laws.proofs.Says.{says_le, says_eq, says_and, says_iff}
-use Rattle.laws.proofs.Tests.{not_true, not_false}
 use Rattle.laws.proofs.ByIndex.{by_index-length, by_index_at, by_index_more, by_index_same, is_by_index}
 use Rattle.laws.proofs.Put.{put_none, put_next}
 use Rattle.fields.specs.Number.{number2_of, bytes2, Bytes}
@@ -111,13 +110,13 @@ from_block_by : (s : List ℕ) {b : Bool} → block_shape s ≡ b → from_block
 unfolding from_block
 from_block_by s e = ap (λ (b : Bool). cond b (record { ok = true; job = job_in s }) (record { ok = false; job = zero_job })) e
 
-pub from_block_no : (s : List ℕ) {b : Bool} {job : Job} → b ≡ block_shape s → not b ≡ true → job ≡ zero_job
+pub from_block_no : (s : List ℕ) {b : Bool} {job : Job} → b ≡ block_shape s → b ≡ false → job ≡ zero_job
     → ◌≡◌ {A = Blocked} (record { ok = false; job = job }) (from_block s)
-from_block_no s e h f = ap (λ (j : Job). record { ok = false; job = j }) f ∙ sym (from_block_by s (sym e ∙ not_true h))
+from_block_no s e h f = ap (λ (j : Job). record { ok = false; job = j }) f ∙ sym (from_block_by s (sym e ∙ h))
 
-pub from_block_yes : (s : List ℕ) {b : Bool} {job : Job} → b ≡ block_shape s → not b ≡ false → job ≡ job_in s
+pub from_block_yes : (s : List ℕ) {b : Bool} {job : Job} → b ≡ block_shape s → b ≡ true → job ≡ job_in s
     → ◌≡◌ {A = Blocked} (record { ok = true; job = job }) (from_block s)
-from_block_yes s e h f = ap (λ (j : Job). record { ok = true; job = j }) f ∙ sym (from_block_by s (sym e ∙ not_false h))
+from_block_yes s e h f = ap (λ (j : Job). record { ok = true; job = j }) f ∙ sym (from_block_by s (sym e ∙ h))
 
 pub job_in_done : (s : List ℕ) {w h n : ℕ} {records : List Record} → w ≡ number2_of s 0 → h ≡ number2_of s 2 → n ≡ count_in s
     → records ≡ filled_row (λ k. record_of (piece_in s k)) no_record n pieces_max

@@ -1,5 +1,6 @@
 // The job by value: one sheet and up to 64 pieces, with their limits.
 // change.rt: a piece more, changed, less; block.rt: the job block.
+#![tactic(auto)]
 ghost use Rattle.std.specs.Prelude.{◌≡◌, [], ◌≤◌};
 ghost use Rattle.cutting.specs.Limits.{pieces_max};
 ghost use Rattle.job.specs.Job.{no_record, job_of, zero_job};
@@ -9,7 +10,7 @@ pub mod block;
 mod change;
 
 #[repr(C)]
-#[derive(Drop)]
+#[derive(Clone, Copy)]
 pub struct Piece {
     pub width: u16,
     pub height: u16,
@@ -20,7 +21,7 @@ pub struct Piece {
 pub type Records = [Piece; Job::PIECES_MAX as usize];
 
 #[repr(C)]
-#[derive(Drop)]
+#[derive(Clone, Copy)]
 pub struct Job {
     pub width: u16,
     pub height: u16,

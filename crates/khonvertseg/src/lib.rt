@@ -1,4 +1,5 @@
 // The C face: the calls under the names and layouts of include/khonvertseg.h. A row is lent as pointer and length.
+#![tactic(auto)]
 ghost use Rattle.std.specs.Prelude.{◌≡◌};
 ghost use Rattle.khonvertseg.specs.Flat.{flat_changed, flat_asked, flat_planned, flat_checked};
 ghost use Rattle.khonvertseg.specs.Calls.{KhonOpens, KhonAdds, KhonCorrects, KhonRemoves, AsksBlock, KhonAsks, PlansBlock, KhonPlans, KhonChecks};

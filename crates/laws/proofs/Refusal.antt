@@ -34,6 +34,8 @@ one_row false p q next = (⊎_elim (λ z. z.1) (λ z. absurd (says_false p refl 
 pub gives_exactly : (rows : List Row) (tests : List Bool) → Tested rows tests → (k : ℕ) → Gives rows k ↔ (k ≡ number_given rows tests)
 unfolding Gives number_given
 gives_exactly [] [] Tested.end k = ((λ e. e), (λ e. e))
+gives_exactly [] (test ∷ tests) s k = elim s [ ]
+gives_exactly (row ∷ rows) [] s k = elim s [ ]
 gives_exactly (row ∷ rows) (test ∷ tests) (Tested.says s next) k =
     one_row (passes row test) (passes_says row test s) (stops_says row test s) (λ p. gives_exactly rows tests (next p) k)
 
@@ -41,6 +43,8 @@ gives_exactly (row ∷ rows) (test ∷ tests) (Tested.says s next) k =
 pub tested_take : (n : ℕ) (rows : List Row) (tests : List Bool) → Tested rows tests → Tested (take n rows) (take n tests)
 tested_take zero rows tests s = Tested.end
 tested_take (suc n) [] [] Tested.end = Tested.end
+tested_take (suc n) [] (test ∷ tests) s = elim s [ ]
+tested_take (suc n) (row ∷ rows) [] s = elim s [ ]
 tested_take (suc n) (row ∷ rows) (test ∷ tests) (Tested.says s next) = Tested.says s (λ p. tested_take n rows tests (next p))
 
 -- A list gives one number only.

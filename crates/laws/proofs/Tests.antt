@@ -1,27 +1,19 @@
 -- Early returns with one test each, and the chain of tests, joined by &&, that they answer.
 use Prim.Native.Nat.{ℕ, ◌+◌, ◌≤◌, ◌<◌}
-use mathlib.Core.Bool.{Bool, true, false, not, ◌&&◌}
-use mathlib.Core.Path.{◌≡◌, refl, sym, ap, ap₂, ◌∙◌}
+use mathlib.Core.Bool.{Bool, true, false, ◌&&◌}
+use mathlib.Core.Path.{◌≡◌, sym, ap, ap₂, ◌∙◌}
 use lib.Dec.{leb}
 use borrow.Author.Tests.{le-leb, lt-leb}
 use Rattle.laws.specs.Inner.{Says, all_below}
 use Rattle.laws.proofs.Says.{true≢false, says_no}
 use Rattle.laws.proofs.Below.{all_below_more, all_below_says}
 
-pub not_true : {b : Bool} → not b ≡ true → b ≡ false
-not_true {b = true} e = sym e
-not_true {b = false} e = refl
-
-pub not_false : {b : Bool} → not b ≡ false → b ≡ true
-not_false {b = true} e = refl
-not_false {b = false} e = sym e
-
 -- The code left because its test of b failed (d are the tests that were to come), or went on because it held.
-pub and_no : {b r : Bool} (d : Bool) → r ≡ b → not r ≡ true → false ≡ (b && d)
-and_no d e h = ap (λ (a : Bool). a && d) (sym (sym e ∙ not_true h))
+pub and_no : {b r : Bool} (d : Bool) → r ≡ b → r ≡ false → false ≡ (b && d)
+and_no d e h = ap (λ (a : Bool). a && d) (sym (sym e ∙ h))
 
-pub and_yes : {b d r s : Bool} → r ≡ b → not r ≡ false → s ≡ d → s ≡ (b && d)
-and_yes {b} {d} e h f = f ∙ ap (λ (a : Bool). a && d) (sym (sym e ∙ not_false h))
+pub and_yes : {b d r s : Bool} → r ≡ b → r ≡ true → s ≡ d → s ≡ (b && d)
+and_yes {b} {d} e h f = f ∙ ap (λ (a : Bool). a && d) (sym (sym e ∙ h))
 
 -- The same where the test is of two numbers.
 pub le_no : {m n : ℕ} (d : Bool) → n < m → false ≡ (leb m n && d)
@@ -38,8 +30,8 @@ pub fact_yes : {b d r : Bool} {P : Type 0} → Says b P → P → r ≡ d → r 
 fact_yes {d = d} s h f = f ∙ ap (λ (a : Bool). a && d) (sym (s.found h))
 
 -- The same in a loop over the numbers below n.
-pub all_no : (f : ℕ → Bool) (n k : ℕ) {r : Bool} → k < n → r ≡ f k → not r ≡ true → false ≡ all_below f n
-all_no f n k l e h = sym (says_no (all_below_says f n) (λ a. true≢false (sym (a k l) ∙ (sym e ∙ not_true h))))
+pub all_no : (f : ℕ → Bool) (n k : ℕ) {r : Bool} → k < n → r ≡ f k → r ≡ false → false ≡ all_below f n
+all_no f n k l e h = sym (says_no (all_below_says f n) (λ a. true≢false (sym (a k l) ∙ (sym e ∙ h))))
 
-pub all_yes : (f : ℕ → Bool) (n : ℕ) {r : Bool} → all_below f n ≡ true → r ≡ f n → not r ≡ false → all_below f (n + 1) ≡ true
-all_yes f n a e h = all_below_more f n ∙ ap₂ ◌&&◌ a (sym e ∙ not_false h)
+pub all_yes : (f : ℕ → Bool) (n : ℕ) {r : Bool} → all_below f n ≡ true → r ≡ f n → r ≡ true → all_below f (n + 1) ≡ true
+all_yes f n a e h = all_below_more f n ∙ ap₂ ◌&&◌ a (sym e ∙ h)

@@ -6,7 +6,6 @@ use mathlib.Core.List.{List}
 use native.Mathlib.Omega.{arith}
 use lib.ListN.{length, drop, replicate, length-replicate}
 use Rattle.laws.specs.Put.{put}
-use Rattle.laws.proofs.Tests.{not_true, not_false}
 use Rattle.laws.proofs.ByIndex.{by_index-length}
 use Rattle.cutting.specs.Limits.{pieces_max}
 use Rattle.cells.specs.Cells.{cell_of}
@@ -182,7 +181,7 @@ module _ (s : List ℕ) {blocked : Blocked} (e : blocked ≡ from_block s) where
 
   pub block_refused_text : {n : ℕ} → not blocked.ok ≡ true → n ≡ 1 → refused_text n ≡ program_text s
   unfolding program_text
-  block_refused_text h i = ap refused_text i ∙ (choice_no (not_true h) ∙ ap choice e)
+  block_refused_text h i = ap refused_text i ∙ (choice_no h ∙ ap choice e)
 
   pub block_text : {answer : Changed} {t cells : List ℕ} → not blocked.ok ≡ false → answer ≡ (entered blocked.job t).answer
       → cells ≡ (entered blocked.job t).cells → t ≡ new_table → entered_text answer cells ≡ program_text s
@@ -190,4 +189,4 @@ module _ (s : List ℕ) {blocked : Blocked} (e : blocked ≡ from_block s) where
   block_text h f g z =
       let answer = f ∙ (λ i. (entered blocked.job (z i)).answer) in
       let cells = g ∙ (λ i. (entered blocked.job (z i)).cells) in
-      (λ i. entered_text (answer i) (cells i)) ∙ (choice_yes (not_false h) ∙ ap choice e)
+      (λ i. entered_text (answer i) (cells i)) ∙ (choice_yes h ∙ ap choice e)

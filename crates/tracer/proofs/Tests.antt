@@ -68,10 +68,10 @@ mark_read board true c = refl
 mark_read board false c = refl
 
 module _ (board : List ℕ) (cell : ℕ → ℕ → ℕ) (tall : Bool) (number x y c : ℕ) {b : Bool} (read : b ≡ marked_at board tall c) where
-  pub adds_unmarked : not b ≡ true → false ≡ adds_to (rows_on board) cell tall number x y c
+  pub adds_unmarked : b ≡ false → false ≡ adds_to (rows_on board) cell tall number x y c
   unfolding adds_to
   adds_unmarked h = and_no _ (read ∙ mark_read board tall c) h
 
-  pub adds_marked : {n : ℕ} → not b ≡ false → n ≡ two_cells cell tall x y c → eqb n number ≡ adds_to (rows_on board) cell tall number x y c
+  pub adds_marked : {n : ℕ} → b ≡ true → n ≡ two_cells cell tall x y c → eqb n number ≡ adds_to (rows_on board) cell tall number x y c
   unfolding adds_to
   adds_marked h e = and_yes (read ∙ mark_read board tall c) h (same_read number e)

@@ -1,6 +1,5 @@
 -- `fill_row`: from the first empty cell on, or nothing.
 use mathlib.Core.Path.{sym, ◌∙◌}
-use Rattle.laws.proofs.Tests.{not_true}
 use Rattle.fill.proofs.Rounds.{row_held, row_full}
 use borrow.Author.Rules.{rules}
 use Rattle.fill.proofs.fill_row.Statement.{statement}
@@ -10,7 +9,7 @@ row-has-empty-requires : tie.Need-row-has-empty-requires
 row-has-empty-requires c κs = row_held c.before.before.requires.0
 
 returns : tie.Need-returns
-returns c = row_full _ _ _ _ _ _ c.before.before.before.before.requires.0 (sym c.before.row-has-empty.ensures ∙ not_true c.if1.true)
+returns c = row_full _ _ _ _ _ _ c.before.before.before.before.requires.0 (sym c.before.row-has-empty.ensures ∙ c.if1.true)
 
 first-empty-requires : tie.Need-first-empty-requires
 first-empty-requires c κs = row_held c.before.before.before.before.before.requires.0

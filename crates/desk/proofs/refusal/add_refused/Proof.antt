@@ -3,7 +3,6 @@ use mathlib.Core.Path.{refl, sym, ◌∙◌}
 use borrow.Author.Tests.{eq-eqb}
 use Rattle.laws.proofs.Says.{says_eq, says_no}
 use Rattle.laws.specs.Inner.{every_number}
-use Rattle.laws.proofs.Tests.{not_true, not_false}
 use Rattle.laws.proofs.Refusal.{unless_stops, unless_passes, when_stops, when_passes, accepts, answers, begun_stops, begun_passes}
 use Rattle.desk.specs.Refusals.{add_refusals}
 use Rattle.desk.specs.Inner.{job_refusals, job_tests, job_refused, add_tests, add_refused}
@@ -20,7 +19,7 @@ unfolding add_refused add_refusals add_tests job_refused job_refusals job_tests 
 returns-2 c =
     answers
     (begun_passes 2 refl c.before.before.before.job-refused.ensures c.before.before.if1.false
-    (unless_stops (sym c.before.in-range.ensures ∙ not_true c.if2.true)))
+    (unless_stops (sym c.before.in-range.ensures ∙ c.if2.true)))
 
 returns-3 : tie.Need-returns-3
 unfolding add_refused add_refusals add_tests job_refused job_refusals job_tests every_number
@@ -28,7 +27,7 @@ returns-3 c =
     let passed = c.before.before in
     answers
     (begun_passes 2 refl passed.before.before.before.job-refused.ensures passed.before.before.if1.false
-    (unless_passes (sym passed.before.in-range.ensures ∙ not_false passed.if2.false)
+    (unless_passes (sym passed.before.in-range.ensures ∙ passed.if2.false)
     (when_stops (eq-eqb _ _ c.if3.true))))
 
 returns-4 : tie.Need-returns-4
@@ -37,7 +36,7 @@ returns-4 c =
     let passed = c.before.before in
     answers
     (begun_passes 2 refl passed.before.before.before.job-refused.ensures passed.before.before.if1.false
-    (unless_passes (sym passed.before.in-range.ensures ∙ not_false passed.if2.false)
+    (unless_passes (sym passed.before.in-range.ensures ∙ passed.if2.false)
     (when_passes (says_no (says_eq _ _) c.if3.false) accepts)))
 
 pub add-refused-spec : {M : Type 1} → statement M

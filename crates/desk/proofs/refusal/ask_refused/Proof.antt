@@ -2,7 +2,6 @@
 use mathlib.Core.Bool.{not}
 use mathlib.Core.Path.{refl, sym, ap, ◌∙◌}
 use Rattle.laws.specs.Inner.{every_number}
-use Rattle.laws.proofs.Tests.{not_true, not_false}
 use Rattle.laws.proofs.Refusal.{unless_stops, unless_passes, accepts, answers, begun_stops, begun_passes}
 use Rattle.desk.specs.Refusals.{ask_refusals}
 use Rattle.desk.specs.Inner.{job_refusals, job_tests, job_refused, ask_tests, ask_refused}
@@ -20,7 +19,7 @@ unfolding ask_refused ask_refusals ask_tests job_refused job_refusals job_tests 
 returns-2 c =
     answers
     (begun_passes 2 refl c.before.before.before.job-refused.ensures c.before.before.if1.false
-    (unless_stops (sym c.before.inside.ensures ∙ not_true c.if2.true)))
+    (unless_stops (sym c.before.inside.ensures ∙ c.if2.true)))
 
 has-exceeding-requires : tie.Need-has-exceeding-requires
 has-exceeding-requires c κs =
@@ -35,7 +34,7 @@ returns-3 c =
     let test = box_test first.before.before.args.job _ _ _ c.before.has-exceeding.ensures c.before.before.wide.ensures.0 in
     answers
     (begun_passes 2 refl first.job-refused.ensures inside.before.if1.false
-    (unless_passes (sym inside.inside.ensures ∙ not_false c.before.before.before.if2.false)
+    (unless_passes (sym inside.inside.ensures ∙ c.before.before.before.if2.false)
     (unless_stops (ap not (sym test ∙ c.if3.true)))))
 
 returns-4 : tie.Need-returns-4
@@ -46,7 +45,7 @@ returns-4 c =
     let test = box_test first.before.before.args.job _ _ _ c.before.has-exceeding.ensures c.before.before.wide.ensures.0 in
     answers
     (begun_passes 2 refl first.job-refused.ensures inside.before.if1.false
-    (unless_passes (sym inside.inside.ensures ∙ not_false c.before.before.before.if2.false)
+    (unless_passes (sym inside.inside.ensures ∙ c.before.before.before.if2.false)
     (unless_passes (ap not (sym test ∙ c.if3.false)) accepts)))
 
 pub ask-refused-spec : {M : Type 1} → statement M

@@ -4,7 +4,6 @@ use Prim.Native.Nat.{◌*◌}
 use native.Mathlib.Omega.{arith}
 use lib.ListN.{length}
 use borrow.Author.Tests.{le-leb, lt-leb}
-use Rattle.laws.proofs.Tests.{not_true, not_false}
 use Rattle.laws.proofs.Refusal.{unless_stops, unless_passes, accepts, answers}
 use Rattle.desk.specs.Refusals.{cells_of}
 use Rattle.desk.specs.Inner.{job_refusals, job_tests, job_refused}
@@ -15,7 +14,7 @@ use Rattle.desk.proofs.refusal.job_refused.Tie as tie
 
 returns : tie.Need-returns
 unfolding job_refused job_refusals job_tests
-returns c = answers (unless_stops (sym c.before.in-range.ensures ∙ not_true c.if1.true))
+returns c = answers (unless_stops (sym c.before.in-range.ensures ∙ c.if1.true))
 
 mul-if2 : tie.Need-overflow-mul-if2
 mul-if2 c =
@@ -29,7 +28,7 @@ returns-2 c =
     let start = checked.before.before.before in
     let area = ap₂ ◌*◌ c.before.before.wide.ensures.0 c.before.wide2.ensures.0 in
     answers
-    (unless_passes (sym checked.before.in-range.ensures ∙ not_false checked.if1.false)
+    (unless_passes (sym checked.before.in-range.ensures ∙ checked.if1.false)
     (unless_stops (lt-leb (cells_of start.args.job) (length start.args.t.now) (omega (arith, area)))))
 
 returns-3 : tie.Need-returns-3
@@ -39,7 +38,7 @@ returns-3 c =
     let start = checked.before.before.before in
     let area = ap₂ ◌*◌ c.before.before.wide.ensures.0 c.before.wide2.ensures.0 in
     answers
-    (unless_passes (sym checked.before.in-range.ensures ∙ not_false checked.if1.false)
+    (unless_passes (sym checked.before.in-range.ensures ∙ checked.if1.false)
     (unless_passes (le-leb (cells_of start.args.job) (length start.args.t.now) (omega (arith, area))) accepts))
 
 pub job-refused-spec : {M : Type 1} → statement M

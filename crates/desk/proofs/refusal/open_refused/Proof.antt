@@ -4,7 +4,6 @@ use Prim.Native.Nat.{◌*◌}
 use native.Mathlib.Omega.{arith}
 use lib.ListN.{length}
 use borrow.Author.Tests.{le-leb, lt-leb}
-use Rattle.laws.proofs.Tests.{not_true, not_false}
 use Rattle.laws.proofs.Refusal.{unless_stops, unless_passes, accepts, answers}
 use Rattle.desk.specs.Refusals.{open_refusals}
 use Rattle.desk.specs.Inner.{open_tests, open_refused}
@@ -15,7 +14,7 @@ use Rattle.desk.proofs.refusal.open_refused.Tie as tie
 
 returns : tie.Need-returns
 unfolding open_refused open_refusals open_tests
-returns c = answers (unless_stops (sym c.before.inside.ensures ∙ not_true c.if1.true))
+returns c = answers (unless_stops (sym c.before.inside.ensures ∙ c.if1.true))
 
 mul-if2 : tie.Need-overflow-mul-if2
 mul-if2 c = omega (arith, open_fits c.before.before.before.args.a c.before.before.before.args.b c.before.inside.ensures c.if1.false)
@@ -25,7 +24,7 @@ unfolding open_refused open_refusals open_tests
 returns-2 c =
     let given = c.before.before.before.before.args in
     answers
-    (unless_passes (sym c.before.before.inside.ensures ∙ not_false c.before.if1.false)
+    (unless_passes (sym c.before.before.inside.ensures ∙ c.before.if1.false)
     (unless_stops (lt-leb (given.a * given.b) (length given.t.now) (omega arith))))
 
 returns-3 : tie.Need-returns-3
@@ -33,7 +32,7 @@ unfolding open_refused open_refusals open_tests
 returns-3 c =
     let given = c.before.before.before.before.args in
     answers
-    (unless_passes (sym c.before.before.inside.ensures ∙ not_false c.before.if1.false)
+    (unless_passes (sym c.before.before.inside.ensures ∙ c.before.if1.false)
     (unless_passes (le-leb (given.a * given.b) (length given.t.now) (omega arith)) accepts))
 
 pub open-refused-spec : {M : Type 1} → statement M

@@ -1,7 +1,6 @@
 -- `remove_refused` goes along its list, which begins as that of `job_refused`.
 use mathlib.Core.Path.{refl, sym, ap, ◌∙◌}
 use Rattle.laws.specs.Inner.{every_number}
-use Rattle.laws.proofs.Tests.{not_true, not_false}
 use Rattle.laws.proofs.Refusal.{unless_stops, unless_passes, accepts, answers, begun_stops, begun_passes}
 use Rattle.job.specs.Inner.{within}
 use Rattle.desk.specs.Refusals.{remove_refusals}
@@ -19,7 +18,7 @@ unfolding remove_refused remove_refusals remove_tests job_refused job_refusals j
 returns-2 c =
     let first = c.before.before.before.before in
     let test = c.before.one-to.ensures ∙ ap (within first.before.before.args.number) c.before.before.long.ensures in
-    answers (begun_passes 2 refl first.job-refused.ensures c.before.before.before.if1.false (unless_stops (sym test ∙ not_true c.if2.true)))
+    answers (begun_passes 2 refl first.job-refused.ensures c.before.before.before.if1.false (unless_stops (sym test ∙ c.if2.true)))
 
 returns-3 : tie.Need-returns-3
 unfolding remove_refused remove_refusals remove_tests job_refused job_refusals job_tests every_number
@@ -27,7 +26,7 @@ returns-3 c =
     let first = c.before.before.before.before in
     let test = c.before.one-to.ensures ∙ ap (within first.before.before.args.number) c.before.before.long.ensures in
     answers
-    (begun_passes 2 refl first.job-refused.ensures c.before.before.before.if1.false (unless_passes (sym test ∙ not_false c.if2.false) accepts))
+    (begun_passes 2 refl first.job-refused.ensures c.before.before.before.if1.false (unless_passes (sym test ∙ c.if2.false) accepts))
 
 pub remove-refused-spec : {M : Type 1} → statement M
 remove-refused-spec = tie.close (tie.spec (λ c κs. search rules) returns (λ c κs. search rules) (λ c κs. search rules) returns-2 returns-3)

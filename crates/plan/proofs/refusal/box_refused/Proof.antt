@@ -2,7 +2,6 @@
 use mathlib.Core.Bool.{not}
 use mathlib.Core.Path.{refl, sym, ap, ◌∙◌}
 use Rattle.laws.specs.Inner.{every_number}
-use Rattle.laws.proofs.Tests.{not_true, not_false}
 use Rattle.laws.proofs.Refusal.{unless_stops, unless_passes, accepts, answers, begun_stops, begun_passes}
 use Rattle.desk.specs.Inner.{job_refusals, job_tests, job_refused}
 use Rattle.desk.proofs.Exactly.{box_holds, box_test}
@@ -22,7 +21,7 @@ unfolding box_refused plan_refusals plan_tests job_refused job_refusals job_test
 returns-2 c =
     answers
     (begun_passes 2 refl c.before.before.before.job-refused.ensures c.before.before.if1.false
-    (unless_stops (sym c.before.inside.ensures ∙ not_true c.if2.true)))
+    (unless_stops (sym c.before.inside.ensures ∙ c.if2.true)))
 
 has-empty-requires : tie.Need-has-empty-requires
 has-empty-requires c κs =
@@ -38,7 +37,7 @@ returns-3 c =
     let empty = empty_test first.before.before.args.job _ _ _ c.before.has-empty.ensures c.before.before.wide.ensures.0 in
     answers
     (begun_passes 2 refl first.job-refused.ensures inside.before.if1.false
-    (unless_passes (sym inside.inside.ensures ∙ not_false c.before.before.before.if2.false)
+    (unless_passes (sym inside.inside.ensures ∙ c.before.before.before.if2.false)
     (unless_stops (ap not (sym empty ∙ c.if3.true)))))
 
 has-exceeding-requires : tie.Need-has-exceeding-requires
@@ -58,7 +57,7 @@ returns-4 c =
     let exceeds = box_test job _ _ _ c.before.has-exceeding.ensures c.before.before.wide2.ensures.0 in
     answers
     (begun_passes 2 refl first.job-refused.ensures inside.before.if1.false
-    (unless_passes (sym inside.inside.ensures ∙ not_false full.before.before.before.if2.false)
+    (unless_passes (sym inside.inside.ensures ∙ full.before.before.before.if2.false)
     (unless_passes (ap not (sym empty ∙ full.if3.false))
     (unless_stops (ap not (sym exceeds ∙ c.if4.true))))))
 
@@ -73,7 +72,7 @@ returns-5 c =
     let exceeds = box_test job _ _ _ c.before.has-exceeding.ensures c.before.before.wide2.ensures.0 in
     answers
     (begun_passes 2 refl first.job-refused.ensures inside.before.if1.false
-    (unless_passes (sym inside.inside.ensures ∙ not_false full.before.before.before.if2.false)
+    (unless_passes (sym inside.inside.ensures ∙ full.before.before.before.if2.false)
     (unless_passes (ap not (sym empty ∙ full.if3.false))
     (unless_passes (ap not (sym exceeds ∙ c.if4.false)) accepts))))
 

@@ -1,0 +1,13 @@
+use mathlib.Core.Path.{sym}
+use native.Mathlib.Omega.{arith}
+use borrow.Author.Rules.{rules}
+use Rattle.job.specs.Job.{pieces_of}
+use Rattle.job.proofs.Pieces.{pieces-length}
+use Rattle.job.proofs.Blocks.{put_block_done}
+use Rattle.job.proofs.block.put_block.Goals as goal
+
+-- `block::put_block` meets its contract.
+pub returns : goal.returns
+returns c =
+    let job = c.args.job in
+    put_block_done _ _ _ (pieces_of job) (omega arith) (sym (pieces-length job)) c.put_block_head.ensures c.put_pieces.ensures

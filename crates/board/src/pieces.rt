@@ -8,7 +8,7 @@ use crate::{Board, COUNT, HEIGHT, WIDTH};
 use job::{Job, Piece};
 
 // Which number of a piece.
-#[derive(Drop)]
+#[derive(Clone, Copy)]
 pub enum Measure {
     Width,
     Height,

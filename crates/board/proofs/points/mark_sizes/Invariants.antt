@@ -1,0 +1,11 @@
+use Prim.Native.Nat.{◌-◌, ◌≤◌}
+use native.Mathlib.Omega.{arith}
+use mathlib.Core.Path.{◌≡◌, ◌∙◌}
+use Rattle.board.specs.Inner.{count_on, entry_at, marked_by, is_size, with_sizes}
+use Rattle.board.proofs.Passing.{is_size_none}
+use Rattle.board.proofs.Marking.{marking_none, sizes_more}
+use Rattle.board.proofs.points.mark_sizes.Given as goal
+
+-- `mark_sizes`: the first k sizes are marked.
+abbrev pub invariant-loop-k : goal.invariant-loop-k
+invariant-loop-k l = (l.k ≤ l.n) × (l.board ≡ marked_by l.initial.board l.marks (is_size (entry_at l.initial.board l.sizes) l.k l.side))

@@ -1,6 +1,6 @@
 -- Each refusal number is given exactly when the list says.
 use Prim.Native.Nat.{ℕ, ◌*◌, ◌≤◌}
-use mathlib.Core.Bool.{Bool, false, not, ◌&&◌}
+use mathlib.Core.Bool.{Bool, false, not, ◌&&◌, true}
 use mathlib.Core.List.{List}
 use mathlib.Core.Path.{◌≡◌, refl, sym, ap, ◌∙◌, subst}
 use native.Mathlib.Omega.{arith}

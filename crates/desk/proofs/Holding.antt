@@ -1,6 +1,6 @@
 -- The board of a job serves the filling: what is worked out from it is the worth, and its box can be filled.
 use Prim.Native.Nat.{ℕ, ◌≤◌}
-use mathlib.Core.Bool.{Bool, true, not}
+use mathlib.Core.Bool.{Bool, not, false}
 use mathlib.Core.List.{List}
 use mathlib.Core.Path.{◌≡◌, sym, ap, ◌∙◌, subst}
 use native.Mathlib.Omega.{arith}
@@ -60,4 +60,4 @@ pub box_still : (job : Job) (t : List ℕ) (x y : ℕ) {a : ℕ} {r : Bool} → 
 unfolding filled_for
 box_still job t x y {a = a} wide e none =
     box_full (job_rows job) job.width job.height x y t
-    (subst (λ (m : ℕ). Full m t x y) wide ((full_says a t x y).means (ap not (sym e) ∙ none)))
+    (subst (λ (m : ℕ). Full m t x y) wide ((full_says a t x y).means (ap not (sym e ∙ none))))

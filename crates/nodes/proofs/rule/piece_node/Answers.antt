@@ -1,0 +1,26 @@
+use mathlib.Core.Path.{sym}
+use native.Mathlib.Omega.{arith}
+use Rattle.laws.proofs.Choice.{chosen, not_chosen}
+use Rattle.nodes.proofs.Rules.{is_piece_says}
+use Rattle.nodes.proofs.Entries.{entry_numbered, entry_last, entry_width, entry_height}
+use borrow.Author.Rules.{rules}
+use Rattle.nodes.proofs.rule.piece_node.Goals as goal
+
+-- `piece_node`: kept where the number's entry is of this size.
+pub returns-then-k-eq0 : goal.returns-then-k-eq0
+returns-then-k-eq0 c = sym (not_chosen (is_piece_says _ _ _ _) _ _ (λ n. omega arith))
+
+pub returns-then-k-last : goal.returns-then-k-last
+returns-then-k-last c = sym (not_chosen (is_piece_says _ _ _ _) _ _ (λ n. omega (arith, entry_last _ n)))
+
+pub returns-then-wide-width : goal.returns-then-wide-width
+returns-then-wide-width c = sym (not_chosen (is_piece_says _ _ _ _) _ _ (λ n. omega (arith, entry_width _ n c.piece_width.ensures (omega arith))))
+
+pub returns-then-wide-height : goal.returns-then-wide-height
+returns-then-wide-height c = sym (not_chosen (is_piece_says _ _ _ _) _ _ (λ n. omega (arith, entry_height _ n c.piece_height.ensures (omega arith))))
+
+pub returns : goal.returns
+returns c =
+    let wide = c.piece_width.ensures in
+    sym (chosen (is_piece_says _ _ _ _) _ _
+    (entry_numbered _ (omega arith) (omega arith) wide (omega arith) (omega arith) c.piece_height.ensures (omega arith) (omega arith)))

@@ -9,7 +9,7 @@ use lib.Dec.{leb, eqb}
 use lib.ListN.{length, take, drop, length-take}
 use Rattle.laws.specs.Inner.{Says}
 use Rattle.laws.proofs.Says.{says_no, says_and, says_le, says_eq, says_iff}
-use Rattle.laws.proofs.Tests.{and_no, and_yes, le_yes}
+use Rattle.laws.proofs.Tests.{not_true, not_false, and_no, and_yes, le_yes}
 use Rattle.cutting.specs.Limits.{side_max}
 use Rattle.cutting.specs.Piece.{Piece}
 use Rattle.fields.specs.Number.{number4_of}
@@ -78,11 +78,11 @@ block_done file {start} {end} e d g =
 
 pub agreed_no : (b : Blocked) → not b.ok ≡ true → false ≡ agreed b
 unfolding agreed
-agreed_no b h = and_no {b = b.ok} (job_in_range b.job) refl h
+agreed_no b h = and_no {b = b.ok} (job_in_range b.job) refl (not_true h)
 
 pub agreed_last : (b : Blocked) {r : Bool} → not b.ok ≡ false → r ≡ job_in_range b.job → r ≡ agreed b
 unfolding agreed
-agreed_last b h e = and_yes {b = b.ok} refl h e
+agreed_last b h e = and_yes {b = b.ok} refl (not_false h) e
 
 pub from_ok : (s : List ℕ) → (from_block s).ok ≡ block_shape s
 unfolding from_block

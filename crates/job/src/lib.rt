@@ -30,7 +30,7 @@ pub struct Job {
 }
 
 // What a job block says: where ok is false, it is none, and the job is one of zeros.
-#[derive(Drop)]
+#[derive(Clone, Copy)]
 pub struct Blocked {
     pub ok: bool,
     pub job: Job,

@@ -1,12 +1,20 @@
 -- Early returns with one test each, and the chain of tests, joined by &&, that they answer.
 use Prim.Native.Nat.{ℕ, ◌+◌, ◌≤◌, ◌<◌}
-use mathlib.Core.Bool.{Bool, true, false, ◌&&◌}
-use mathlib.Core.Path.{◌≡◌, sym, ap, ap₂, ◌∙◌}
+use mathlib.Core.Bool.{Bool, true, false, not, ◌&&◌}
+use mathlib.Core.Path.{◌≡◌, refl, sym, ap, ap₂, ◌∙◌}
 use lib.Dec.{leb}
 use borrow.Author.Tests.{le-leb, lt-leb}
 use Rattle.laws.specs.Inner.{Says, all_below}
 use Rattle.laws.proofs.Says.{true≢false, says_no}
 use Rattle.laws.proofs.Below.{all_below_more, all_below_says}
+
+pub not_true : {b : Bool} → not b ≡ true → b ≡ false
+not_true {b = true} e = sym e
+not_true {b = false} e = refl
+
+pub not_false : {b : Bool} → not b ≡ false → b ≡ true
+not_false {b = true} e = refl
+not_false {b = false} e = sym e
 
 -- The code left because its test of b failed (d are the tests that were to come), or went on because it held.
 pub and_no : {b r : Bool} (d : Bool) → r ≡ b → r ≡ false → false ≡ (b && d)

@@ -2,7 +2,7 @@ use Prim.Native.Nat.{◌≤◌, ◌-◌}
 use mathlib.Core.Path.{◌≡◌, refl}
 use native.Mathlib.Omega.{arith}
 use lib.ListN.{length}
-use mathlib.Core.Bool.{true}
+
 use Rattle.board.specs.Inner.{marked_at}
 use Rattle.fill.specs.Inner.{cell_on, Columns}
 use Rattle.fill.proofs.Floors.{lined, lined_none, lined_marked, lined_unmarked, lined_end}

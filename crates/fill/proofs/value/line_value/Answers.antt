@@ -1,5 +1,5 @@
 use Prim.Native.Nat.{◌≤◌, ◌-◌}
-use mathlib.Core.Bool.{false}
+
 use mathlib.Core.Path.{◌≡◌}
 use native.Mathlib.Omega.{arith}
 use Rattle.board.specs.Inner.{marked_at}

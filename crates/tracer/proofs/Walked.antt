@@ -22,17 +22,15 @@ use Rattle.laws.proofs.Wrote.{wrote_as}
 use Rattle.tracer.proofs.Wrote.{near_room, far_room, wrote_line}
 use Rattle.tracer.proofs.Traced.{IsLeaf, step_inside, step_among, near_less, far_less, measured_leaf, measured_line, measured_most, nodes_leaf, nodes_line}
 
--- The code's test that the step s is no line, by its tag.
+-- The code's test that the step s is no line.
 abbrev NoLine : Step → Type 0
-NoLine s = OneOf (0 ∷ 1 ∷ 3 ∷ []) (tag_of the_type s)
+NoLine s = (tall : Bool) (c wanted : ℕ) → s ≡ Step.Line tall c wanted → ⊥
 
-leaf_by_tag : (s : Step) → NoLine s → IsLeaf s
-leaf_by_tag Step.Scrap h = tt
-leaf_by_tag (Step.Piece k) h = tt
-leaf_by_tag Step.Struck h = tt
-leaf_by_tag (Step.Line tall c wanted) (inl e) = omega (arith, e)
-leaf_by_tag (Step.Line tall c wanted) (inr (inl e)) = omega (arith, e)
-leaf_by_tag (Step.Line tall c wanted) (inr (inr e)) = omega (arith, e)
+leaf_unless_line : (s : Step) → NoLine s → IsLeaf s
+leaf_unless_line Step.Scrap h = tt
+leaf_unless_line (Step.Piece k) h = tt
+leaf_unless_line Step.Struck h = tt
+leaf_unless_line (Step.Line tall c wanted) h = absurd (h tall c wanted refl)
 
 beyond_wanted : (rows : Rows) (wanted : ℕ) → Wanted rows (beyond wanted)
 beyond_wanted rows wanted = either_way (Wanted rows) (says_eq wanted free) _ _ (λ _. inl (omega arith)) (λ _. inr refl)
@@ -51,10 +49,10 @@ module _ {board t : List ℕ} {p : WantedPart} (ready : Traceable board t p) {s 
   cell = cell_of (width_on board) t
 
   pub leaf_measured : {r : ℕ} → NoLine s → r ≡ leaf_length s → r ≡ measured rows cell p
-  leaf_measured l e = e ∙ measured_leaf rows cell p s (leaf_by_tag s l) (sym found)
+  leaf_measured l e = e ∙ measured_leaf rows cell p s (leaf_unless_line s l) (sym found)
 
   pub leaf_written : {o q : List ℕ} {at n : ℕ} → NoLine s → Wrote o at (node_of s) n q → Wrote o at (encode (traced rows cell p)) n q
-  leaf_written l = wrote_as (nodes_leaf rows cell p s (leaf_by_tag s l) (sym found))
+  leaf_written l = wrote_as (nodes_leaf rows cell p s (leaf_unless_line s l) (sym found))
 
   short : {u v : WantedPart} {k : ℕ} → Traceable board t v → u ≡ v → k ≡ measured rows cell u → k ≤ length_most
   short {v = v} a e f =

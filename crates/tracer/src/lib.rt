@@ -11,7 +11,7 @@ pub const FREE: u16 = 0;
 pub const WASTE: u16 = 65_535;
 
 // The next step in a part. A line has its direction (true for a horizontal one), its place, and what is wanted of its near part.
-#[derive(Drop)]
+#[derive(Clone, Copy)]
 pub enum Step {
     Scrap,
     Piece(u16),

@@ -1,0 +1,6 @@
+-- Width plus height falls at each line.
+use Prim.Native.Nat.{◌+◌}
+use Rattle.tracer.proofs.walk.+write.Given as goal
+
+abbrev pub decreases-write : goal.decreases-write
+decreases-write l = l.width + l.height

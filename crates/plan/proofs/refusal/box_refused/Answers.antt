@@ -1,0 +1,70 @@
+use mathlib.Core.Bool.{not}
+use mathlib.Core.Path.{refl, sym, ap, ◌∙◌}
+use Rattle.laws.specs.Inner.{every_number}
+use Rattle.laws.proofs.Refusal.{unless_stops, unless_passes, accepts, answers, begun_stops, begun_passes}
+use Rattle.desk.specs.Inner.{job_refusals, job_tests, job_refused}
+use Rattle.desk.proofs.Exactly.{box_holds, box_test}
+use Rattle.plan.proofs.Exactly.{empty_test}
+use Rattle.plan.specs.Refusals.{plan_refusals}
+use Rattle.plan.specs.Inner.{plan_tests, box_refused}
+use borrow.Author.Rules.{rules}
+use Rattle.plan.proofs.refusal.box_refused.Goals as goal
+
+-- `box_refused` goes along its list, which begins as that of `job_refused`.
+pub returns-then-first-ne0 : goal.returns-then-first-ne0
+unfolding box_refused plan_refusals plan_tests job_refused job_refusals job_tests every_number
+returns-then-first-ne0 c = answers (begun_stops 2 c.job_refused-first.ensures c.if-first-ne0.true)
+
+pub returns-then-not-inside : goal.returns-then-not-inside
+unfolding box_refused plan_refusals plan_tests job_refused job_refusals job_tests every_number
+returns-then-not-inside c =
+    answers
+    (begun_passes 2 refl c.job_refused-first.ensures c.if-first-ne0.false
+    (unless_stops (sym c.inside.ensures ∙ c.if-not-inside.true)))
+
+pub has_empty-requires : goal.has_empty-requires
+has_empty-requires c =
+    record {
+      holds = (box_holds _ _ _ _ c.job_refused-first.ensures c.if-first-ne0.false c.inside.ensures c.if-not-inside.false c.wide.ensures.value).0;
+      x_le_a = (box_holds _ _ _ _ c.job_refused-first.ensures c.if-first-ne0.false c.inside.ensures c.if-not-inside.false c.wide.ensures.value).1;
+    }
+
+pub returns-then-has_empty : goal.returns-then-has_empty
+unfolding box_refused plan_refusals plan_tests job_refused job_refusals job_tests every_number
+returns-then-has_empty c =
+    let empty = empty_test c.args.job _ _ _ c.has_empty.ensures c.wide.ensures.value in
+    answers
+    (begun_passes 2 refl c.job_refused-first.ensures c.if-first-ne0.false
+    (unless_passes (sym c.inside.ensures ∙ c.if-not-inside.false)
+    (unless_stops (ap not (sym empty ∙ c.if-has_empty.true)))))
+
+pub has_exceeding-requires : goal.has_exceeding-requires
+has_exceeding-requires c =
+    record {
+      holds = (box_holds _ _ _ _ c.job_refused-first.ensures c.if-first-ne0.false c.inside.ensures c.if-not-inside.false c.wide-2.ensures.value).0;
+      x_le_a = (box_holds _ _ _ _ c.job_refused-first.ensures c.if-first-ne0.false c.inside.ensures c.if-not-inside.false c.wide-2.ensures.value).1;
+    }
+
+pub returns-then-has_exceeding : goal.returns-then-has_exceeding
+unfolding box_refused plan_refusals plan_tests job_refused job_refusals job_tests every_number
+returns-then-has_exceeding c =
+    let job = c.args.job in
+    let empty = empty_test job _ _ _ c.has_empty.ensures c.wide.ensures.value in
+    let exceeds = box_test job _ _ _ c.has_exceeding.ensures c.wide-2.ensures.value in
+    answers
+    (begun_passes 2 refl c.job_refused-first.ensures c.if-first-ne0.false
+    (unless_passes (sym c.inside.ensures ∙ c.if-not-inside.false)
+    (unless_passes (ap not (sym empty ∙ c.if-has_empty.false))
+    (unless_stops (ap not (sym exceeds ∙ c.if-has_exceeding.true))))))
+
+pub returns : goal.returns
+unfolding box_refused plan_refusals plan_tests job_refused job_refusals job_tests every_number
+returns c =
+    let job = c.args.job in
+    let empty = empty_test job _ _ _ c.has_empty.ensures c.wide.ensures.value in
+    let exceeds = box_test job _ _ _ c.has_exceeding.ensures c.wide-2.ensures.value in
+    answers
+    (begun_passes 2 refl c.job_refused-first.ensures c.if-first-ne0.false
+    (unless_passes (sym c.inside.ensures ∙ c.if-not-inside.false)
+    (unless_passes (ap not (sym empty ∙ c.if-has_empty.false))
+    (unless_passes (ap not (sym exceeds ∙ c.if-has_exceeding.false)) accepts))))

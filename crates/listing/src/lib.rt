@@ -14,7 +14,7 @@ pub enum Kind {
 }
 
 // A part to be listed: where its nodes start, its level and its sides.
-#[derive(Drop)]
+#[derive(Clone, Copy)]
 pub struct Section {
     pub at: usize,
     pub level: usize,

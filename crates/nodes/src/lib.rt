@@ -17,7 +17,7 @@ use rule::by_letter;
 mod rule;
 
 // One node, judged by the rules for its part: a line (tall: a horizontal one) at its number, a piece's number, scrap, or a rule broken.
-#[derive(Drop)]
+#[derive(Clone, Copy)]
 pub enum Node {
     Line(bool, u16),
     Piece(u16),

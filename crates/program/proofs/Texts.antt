@@ -5,6 +5,7 @@ use mathlib.Core.Path.{◌≡◌, refl, sym, ap, ◌∙◌}
 use mathlib.Core.List.{List}
 use native.Mathlib.Omega.{arith}
 use lib.ListN.{length, drop, replicate, length-replicate}
+use Rattle.laws.proofs.Tests.{not_true, not_false}
 use Rattle.laws.specs.Put.{put}
 use Rattle.laws.proofs.ByIndex.{by_index-length}
 use Rattle.cutting.specs.Limits.{pieces_max}
@@ -23,7 +24,7 @@ use Rattle.desk.specs.declared.Asked.TheVariants.{Answered, Refused}
 use Rattle.desk.specs.Inner.{accepted, ask_refused, asked, asked_cells, filled_for, asked_with}
 use Rattle.plan.specs.declared.Planned.{Planned}
 use Rattle.plan.specs.declared.Planned.TheVariants.{Written, Refused as NoPlan}
-use Rattle.plan.specs.Inner.{tree_for, plan_file, plan_refused, planned, planned_bytes, planned_with as plan_with, Ready}
+use Rattle.plan.specs.Inner.{tree_for, plan_file, plan_refused, planned, planned_bytes, planned_with, Ready}
 use Rattle.plan.proofs.Tracing.{tree_by_rules, tree_earns}
 use Rattle.plan.proofs.Exactly.{plan_granted}
 use Rattle.listing.specs.Line.{refused_text}
@@ -47,12 +48,12 @@ pub plan_with : (job : Job) (t : List ℕ) (x y room : ℕ) → plan_refused job
 plan_with job t x y room e = plan_granted job t x y (replicate room 0) (ap (plan_refused job t x y) (sym (length-replicate room 0))) e
 
 -- The answers of plan.
-plan_no : (n length value k : ℕ) (text : List ℕ) → plan_with n length value ≡ NoPlan k → refused_text k ≡ text_or n text
+plan_no : (n length value k : ℕ) (text : List ℕ) → planned_with n length value ≡ NoPlan k → refused_text k ≡ text_or n text
 unfolding text_or
 plan_no zero length value k text e = let z : ◌≡◌ {A = ℕ} 0 1 = cc in absurd (omega arith)
 plan_no (suc j) length value k text e = let z : k ≡ suc j = cc in ap refused_text z
 
-plan_yes : (n length value : ℕ) {l v : ℕ} → plan_with n length value ≡ Written l v → 0 ≡ n
+plan_yes : (n length value : ℕ) {l v : ℕ} → planned_with n length value ≡ Written l v → 0 ≡ n
 plan_yes zero length value e = refl
 plan_yes (suc j) length value e = let z : ◌≡◌ {A = ℕ} 0 1 = cc in absurd (omega arith)
 
@@ -181,7 +182,7 @@ module _ (s : List ℕ) {blocked : Blocked} (e : blocked ≡ from_block s) where
 
   pub block_refused_text : {n : ℕ} → not blocked.ok ≡ true → n ≡ 1 → refused_text n ≡ program_text s
   unfolding program_text
-  block_refused_text h i = ap refused_text i ∙ (choice_no h ∙ ap choice e)
+  block_refused_text h i = ap refused_text i ∙ (choice_no (not_true h) ∙ ap choice e)
 
   pub block_text : {answer : Changed} {t cells : List ℕ} → not blocked.ok ≡ false → answer ≡ (entered blocked.job t).answer
       → cells ≡ (entered blocked.job t).cells → t ≡ new_table → entered_text answer cells ≡ program_text s
@@ -189,4 +190,4 @@ module _ (s : List ℕ) {blocked : Blocked} (e : blocked ≡ from_block s) where
   block_text h f g z =
       let answer = f ∙ (λ i. (entered blocked.job (z i)).answer) in
       let cells = g ∙ (λ i. (entered blocked.job (z i)).cells) in
-      (λ i. entered_text (answer i) (cells i)) ∙ (choice_yes h ∙ ap choice e)
+      (λ i. entered_text (answer i) (cells i)) ∙ (choice_yes (not_false h) ∙ ap choice e)

@@ -1,0 +1,13 @@
+use mathlib.Core.Path.{refl}
+use Rattle.program.proofs.Entered.{entered_as}
+use borrow.Author.Rules.{rules}
+use Rattle.program.proofs.entry.enter.Goals as goal
+
+-- `enter` meets its contract.
+pub returns : goal.returns
+returns c =
+    let opened = c.open-start.ensures in
+    record {
+      value = (entered_as _ _ c.long.ensures c.long-2.ensures opened.0 opened.1 refl c.add_all.ensures.value c.add_all.ensures.cells_after).0;
+      cells_after = (entered_as _ _ c.long.ensures c.long-2.ensures opened.0 opened.1 refl c.add_all.ensures.value c.add_all.ensures.cells_after).1;
+    }

@@ -1,8 +1,8 @@
 # `make help` lists the targets. Nothing is proved twice: rt runs only where a file of crates/ is newer than what was made
-# of it, so after a build `make install` needs no rt.
+# of it, so after a build `make install` needs no rt. What rt makes stands in crates/NAME/out/; what is built for users is copied to target/.
 .PHONY: all help run test archive shared program install uninstall clean folders
 .DELETE_ON_ERROR:
-.NOTPARALLEL: # two rt at a time would share target/
+.NOTPARALLEL: # two rt at a time would wait for each other
 
 PREFIX ?= /usr/local
 LIBDIR ?= $(PREFIX)/lib
@@ -14,7 +14,7 @@ ARCHIVE := target/staticlib/libkhonvertseg.a
 SHARED := target/shared/libkhonvertseg.so
 PROGRAM := target/bin/guillotine
 # Folders too: they are newer when a file of theirs is gone. What begins with a dot is an editor's.
-SOURCES := crates.txt $(shell find crates -name must-fail -prune -o ! -name '.*' ! -name '* *' -print)
+SOURCES := crates.txt $(shell find $(wildcard $(foreach part,src specs proofs,crates/*/$(part))) ! -name '.*' ! -name '* *' -print)
 
 all: program archive shared ## archive, shared library and program (when no target is named)
 
@@ -24,7 +24,7 @@ help: ## this list
 
 run: ## cuts an example sheet, 3 by 3, with two kinds of piece: 1 by 2 worth 2, 2 by 3 worth 6
 	@mkdir -p target && $(MAKE) -sq $(PROGRAM) || { \
-	    echo 'First the program is proved and built: two to three minutes from nothing. What rt says goes to target/run.log.'; \
+	    echo 'First the program is proved and built: some minutes from nothing. What rt says goes to target/run.log.'; \
 	    $(MAKE) -s $(PROGRAM) >target/run.log 2>&1 || { tail -n 20 target/run.log; exit 1; }; }
 	printf '3 3\n1 2 2\n2 3 6\n' | tools/cut
 
@@ -33,14 +33,14 @@ test: ## proves everything from nothing, tries every must-fail edit, runs all te
 
 archive: $(ARCHIVE) ## target/staticlib/libkhonvertseg.a, for C
 $(ARCHIVE): $(SOURCES)
-	rt staticlib khonvertseg
+	cd crates/khonvertseg_c && rt lib
+	@install -D -m 644 crates/khonvertseg_c/out/libkhonvertseg_c.a $@
 
 program: $(PROGRAM) ## target/bin/guillotine
-# rt makes no program again that is proved: its time is ours to set, and one that was removed must lose its stamp.
+# rt runs what it has built, here on no input.
 $(PROGRAM): $(SOURCES)
-	@[ -f $@ ] || rm -f target/stamp/guillotine
-	rt check guillotine
-	@touch -c $@
+	cd crates/guillotine && rt run </dev/null
+	@install -D -m 755 crates/guillotine/out/guillotine $@
 
 # Every symbol is bound when the library is loaded, so that no first call takes the linker's stack.
 shared: $(SHARED) ## target/shared/libkhonvertseg.so, for C and for languages that load a library
@@ -88,5 +88,5 @@ uninstall: folders ## removes the files that install put there, no folder and no
 	rm -f $(LIB)/libkhonvertseg.so.$(VERSION)
 	rm -f $(LIB)/pkgconfig/khonvertseg.pc $(MAN)/man1/khon-cut.1 $(MAN)/man3/khonvertseg.3
 
-clean: ## removes target/, all that was built
-	rm -rf target
+clean: ## removes target/ and each out/ of crates/, all that was built
+	rm -rf target crates/*/out

@@ -1,7 +1,10 @@
 # Sourced by the test scripts, which say first what their subject is. One line
-# for each check; the last line, count's, is "N passed, M failed".
+# for each check; the last line, count's, is "N passed, M failed". Links that a
+# script made in its folder go at its end: rt ci refuses a checkout that has one.
 passed=0
 failed=0
+trap '[ -z "${out-}" ] || find "$out" -type l -exec rm -f {} + 2>/dev/null' EXIT
+trap 'exit 1' HUP INT TERM
 
 verdict() { # status name
     if [ "$1" -eq 0 ]; then

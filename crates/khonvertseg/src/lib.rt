@@ -1,5 +1,6 @@
-// The C face: the calls under the names and layouts of include/khonvertseg.h. A row is lent as pointer and length.
+// The C face: the calls under the names and layouts of include/khonvertseg.h, which `khonvertseg_c` exports.
 #![tactic(auto)]
+
 ghost use Rattle.std.specs.Prelude.{◌≡◌};
 ghost use Rattle.khonvertseg.specs.Flat.{flat_changed, flat_asked, flat_planned, flat_checked};
 ghost use Rattle.khonvertseg.specs.Calls.{KhonOpens, KhonAdds, KhonCorrects, KhonRemoves, AsksBlock, KhonAsks, PlansBlock, KhonPlans, KhonChecks};
@@ -115,34 +116,25 @@ fn flat_checked(answer: checker::Checked) -> KhonChecked
     }
 }
 
-#[unsafe(no_mangle)]
-pub extern "C" fn khon_open(width: u32, height: u32, cells: &mut [u32]) -> KhonChanged
+pub fn khon_open(width: u32, height: u32, cells: &mut [u32]) -> KhonChanged
     ensures { KhonOpens width height cells.old result cells.new }
 {
     flat_changed(change::open(width, height, cells))
 }
 
-#[unsafe(no_mangle)]
-pub extern "C" fn khon_add(job: Job, cells: &mut [u32], piece: Piece) -> KhonChanged
+pub fn khon_add(job: Job, cells: &mut [u32], piece: Piece) -> KhonChanged
     ensures { KhonAdds job cells.old piece result cells.new }
 {
     flat_changed(change::add(job, cells, piece))
 }
 
-#[unsafe(no_mangle)]
-pub extern "C" fn khon_correct(
-    job: Job,
-    cells: &mut [u32],
-    number: u32,
-    piece: Piece,
-) -> KhonChanged
+pub fn khon_correct(job: Job, cells: &mut [u32], number: u32, piece: Piece) -> KhonChanged
     ensures { KhonCorrects job cells.old number piece result cells.new }
 {
     flat_changed(change::correct(job, cells, number, piece))
 }
 
-#[unsafe(no_mangle)]
-pub extern "C" fn khon_remove(job: Job, cells: &mut [u32], number: u32) -> KhonChanged
+pub fn khon_remove(job: Job, cells: &mut [u32], number: u32) -> KhonChanged
     ensures { KhonRemoves job cells.old number result cells.new }
 {
     flat_changed(change::remove(job, cells, number))
@@ -160,8 +152,7 @@ fn ask_block(block: &[u8], cells: &mut [u32], x: u32, y: u32) -> desk::Asked
     question::ask(job, cells, x, y)
 }
 
-#[unsafe(no_mangle)]
-pub extern "C" fn khon_ask(block: &[u8], cells: &mut [u32], x: u32, y: u32) -> KhonAsked
+pub fn khon_ask(block: &[u8], cells: &mut [u32], x: u32, y: u32) -> KhonAsked
     ensures { KhonAsks block.now cells.old x y result cells.new }
 {
     flat_asked(ask_block(block, cells, x, y))
@@ -179,21 +170,13 @@ fn plan_block(block: &[u8], cells: &[u32], x: u32, y: u32, file: &mut [u8]) -> p
     plan::plan(job, cells, x, y, file)
 }
 
-#[unsafe(no_mangle)]
-pub extern "C" fn khon_plan(
-    block: &[u8],
-    cells: &[u32],
-    x: u32,
-    y: u32,
-    file: &mut [u8],
-) -> KhonPlanned
+pub fn khon_plan(block: &[u8], cells: &[u32], x: u32, y: u32, file: &mut [u8]) -> KhonPlanned
     ensures { KhonPlans block.now cells.now x y file.old result file.new }
 {
     flat_planned(plan_block(block, cells, x, y, file))
 }
 
-#[unsafe(no_mangle)]
-pub extern "C" fn khon_check(file: &[u8]) -> KhonChecked
+pub fn khon_check(file: &[u8]) -> KhonChecked
     ensures { KhonChecks file.now result }
 {
     flat_checked(checker::check(file))

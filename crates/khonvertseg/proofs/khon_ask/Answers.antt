@@ -1,0 +1,6 @@
+use borrow.Author.Rules.{rules}
+use Rattle.khonvertseg.proofs.khon_ask.Goals as goal
+
+-- `khon_ask` meets its contract.
+pub returns : goal.returns
+returns c = record { answer = _; keeps = c.ask_block.ensures; laid = c.flat_asked.ensures }

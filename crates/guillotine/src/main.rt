@@ -10,7 +10,6 @@ use std::io::{Read, Write};
 // One byte more than the longest block has; what comes after it changes nothing (`input_enough` of `program`).
 const INPUT: usize = 391;
 
-#[tactic(auto, using(program::proofs::Promise::program_within))]
 fn main(rt: HostRuntime) -> io::Result<()> {
     let mut input = [0; INPUT];
     let mut text = [0; TEXT];

@@ -1,6 +1,7 @@
 // The board: one row, lent by the caller, with all that the engine knows of a job. Its named places are known here alone.
 // pieces.rt: the job's sides and pieces on it; points.rt: the marks of P and Q; line.rt: what a line leaves.
 #![tactic(auto)]
+
 ghost use Rattle.std.specs.Prelude.{◌≡◌, ◌≤◌, ◌<◌};
 ghost use Rattle.cutting.specs.Limits.{side_max, pieces_max};
 ghost use Rattle.job.specs.Range.{JobInRange};

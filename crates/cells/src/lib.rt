@@ -1,5 +1,6 @@
 // The row of cells of a sheet. Where a cell lies in the row is known here alone; everyone above says (x, y).
 #![tactic(auto)]
+
 ghost use Rattle.std.specs.Prelude.{◌≤◌, ◌≡◌, set};
 ghost use Rattle.cutting.specs.Limits.{side_max};
 ghost use Rattle.cutting.specs.Piece.{Inside};

@@ -1,5 +1,6 @@
 // The check of a plan file: refusals 9 to 13 in the order of their numbers, whoever wrote the file.
 #![tactic(auto)]
+
 ghost use Rattle.std.specs.Prelude.{◌≡◌, ◌+◌, ◌-◌, ◌≤◌, length};
 ghost use Rattle.job.specs.Range.{JobInRange};
 ghost use Rattle.job.specs.Inner.{from_block};

@@ -1,5 +1,5 @@
 -- Pieces in range earn at most 65,535 for each unit of area: no sum of cells overflows, no cell of a kept table exceeds it (rules 2.9 and 7.7).
-use Prim.Native.Nat.{ℕ, ◌+◌, ◌-◌, ◌*◌, ◌≤◌}
+use Prim.Native.Nat.{ℕ, ◌+◌, ◌*◌, ◌≤◌}
 use native.Mathlib.Omega.{arith}
 use native.Mathlib.Nat.{mul-le-mul}
 use Rattle.cutting.specs.Limits.{value_max}

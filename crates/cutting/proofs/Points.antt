@@ -1,5 +1,5 @@
 -- Narrowing a rectangle to a point of P, or of Q, loses nothing (rule 3.4; Herz, Theorem 1). A point is reached from an earlier one (rule 3.6).
-use Prim.Native.Nat.{ℕ, ◌+◌, ◌-◌, ◌≤◌, ◌<◌}
+use Prim.Native.Nat.{ℕ, ◌+◌, ◌≤◌, ◌<◌}
 use mathlib.Core.Logic.{◌⊎◌, inl, inr, ⊎_elim, ◌↔◌}
 use mathlib.Core.Path.{◌≡◌, refl, sym, subst}
 use native.Mathlib.Omega.{arith}

@@ -40,7 +40,6 @@ use Rattle.nodes.specs.Inner.{is_inside, is_piece, letter_node, node_at, with_fi
 use Rattle.tracer.specs.Inner.{two_cells, suits, first_piece, adds_to, least_line, trimmed_to, cut_out, strikes, ruled, step_in, tree_by, traces_by, traced, traces}
 use Rattle.checker.specs.PlanFile.{plan_bytes, summed, body, pointers}
 use Rattle.checker.specs.Fields.{summed_bytes, block_bytes}
-use Rattle.checker.specs.Checked.{answer}
 use Rattle.checker.specs.Inner.{checked, framed, sum_agrees, agreed, nodes_read, judged, judged_job}
 use Rattle.plan.specs.declared.Planned.{Planned}
 use Rattle.plan.specs.Refusals.{plan_refusals}

@@ -1,6 +1,7 @@
 // The desk: the calls open, add, correct, remove and ask, with their refusals in order. No call has a `requires`.
 // refusal.rt: the numbers and the chain of each call; change.rt: open, add, correct, remove; question.rt: ask.
 #![tactic(auto)]
+
 use job::Job;
 
 pub mod change;

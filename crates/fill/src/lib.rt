@@ -1,6 +1,7 @@
 // The filling of a box: each empty cell gets its worth by the rule, from small to large. No promise speaks of that order.
 // floor.rt: what a row's cells are worth without a line across; value.rt: the lines across; look.rt: where a cell lies.
 #![tactic(auto)]
+
 ghost use Rattle.std.specs.Prelude.{◌≡◌, false, ◌≤◌};
 ghost use Rattle.cells.specs.Inner.{Holds};
 ghost use Rattle.cells.specs.Box.{is_empty, counted, count_in_row, count_in_box};

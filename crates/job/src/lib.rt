@@ -1,6 +1,7 @@
 // The job by value: one sheet and up to 64 pieces, with their limits.
 // change.rt: a piece more, changed, less; block.rt: the job block.
 #![tactic(auto)]
+
 ghost use Rattle.std.specs.Prelude.{◌≡◌, [], ◌≤◌};
 ghost use Rattle.cutting.specs.Limits.{pieces_max};
 ghost use Rattle.job.specs.Job.{no_record, job_of, zero_job};

@@ -1,6 +1,7 @@
 // The listing of a tree: one line for each node in the order of the plan file, read off the nodes that were written.
 // line.rt: one line; part.rt: the lines of a part.
 #![tactic(auto)]
+
 pub mod line;
 pub mod part;
 

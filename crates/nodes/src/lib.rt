@@ -1,6 +1,7 @@
 // The nodes of a plan file: one node judged by the rules for its part, and the part reader and the line reader, which call each other.
 // A stranger's file chooses how deep they go, so that a level carries plain numbers alone. rule.rt: the rule of each letter.
 #![tactic(auto)]
+
 ghost use Rattle.std.specs.Prelude.{◌≡◌, ◌*◌, ◌^◌, ◌≤◌, ◌<◌};
 ghost use Rattle.cutting.specs.Piece.{piece_at};
 ghost use Rattle.board.specs.Inner.{entries, count_on, pieces_on};

@@ -1,6 +1,7 @@
 // The call plan: the file of the tree for a rectangle, written into a lent buffer. It has no `requires`.
 // refusal.rt: the list of refusals; file.rt: the file's parts.
 #![tactic(auto)]
+
 ghost use Rattle.std.specs.Prelude.{◌≡◌};
 ghost use Rattle.job.specs.Range.{JobInRange};
 ghost use Rattle.board.specs.Inner.{blank, board_of};

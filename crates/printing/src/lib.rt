@@ -1,5 +1,6 @@
 // Text into a lent row of bytes: single bytes, words and decimal numbers, one behind the other, as far as there is room.
 #![tactic(auto)]
+
 ghost use Rattle.std.specs.Prelude.{◌≡◌, [], ◌∷◌, ◌+◌, ◌<◌};
 ghost use Rattle.printing.specs.Inner.{Printed};
 ghost use Rattle.printing.specs.Decimal.{digit, decimal};

@@ -29,7 +29,7 @@ use Rattle.job.proofs.Changed.{added_in_range}
 use Rattle.desk.specs.declared.Changed.{Changed}
 use Rattle.desk.specs.Refusals.{bad_piece, cells_of, Usable, open_refusals, add_refusals, AddRefusal}
 use Rattle.desk.specs.Changing.{Changes, SizeFits, Opens, Adds}
-use Rattle.desk.specs.Inner.{accepted, opened, opened_cells, added_job, added_cells}
+use Rattle.desk.specs.Inner.{opened, opened_cells, added_job, added_cells}
 use Rattle.desk.proofs.Exactly.{add_number}
 use Rattle.desk.proofs.Granted.{add_granted}
 use Rattle.desk.proofs.Words.{open_exactly, add_exactly}

@@ -1,6 +1,7 @@
 // The program's work: a job block in, the listing of its sheet's plan out, or the line of a refusal.
 // entry.rt: the block's pieces, added one by one; whole.rt: the sheet asked, planned and printed.
 #![tactic(auto)]
+
 ghost use Rattle.program.specs.Promise.{ProgramPromise};
 
 use desk::refusal;

@@ -1,5 +1,5 @@
 -- The next step is what the rules say: the searches find the first piece and the least line, and the first rule that strikes decides.
-use Prim.Native.Nat.{ℕ, zero, suc, ◌+◌, ◌-◌, ◌/◌, ◌≤◌, ◌<◌}
+use Prim.Native.Nat.{ℕ, zero, suc, ◌+◌, ◌/◌, ◌≤◌, ◌<◌}
 use mathlib.Core.Bool.{Bool, true, false, cond}
 use mathlib.Core.Path.{◌≡◌, refl, sym, ap, ◌∙◌, subst}
 use native.Mathlib.Omega.{arith}
@@ -12,7 +12,6 @@ use mathlib.Core.List.{List}
 use Rattle.cutting.specs.Piece.{Piece, Numbered, Lays, Inside}
 use Rattle.cutting.specs.Candidate.{UpToHalf}
 use Rattle.cutting.specs.Dissection.{rest, crossed, Line}
-use Rattle.cells.specs.Inner.{fits}
 use Rattle.cells.proofs.Emptied.{fits_says}
 use native.Mathlib.Numerals.{add-one}
 use Rattle.board.specs.Inner.{Rows, Hold}

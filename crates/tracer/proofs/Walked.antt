@@ -2,11 +2,9 @@
 use Prim.Native.Nat.{ℕ, ◌≤◌, ◌<◌}
 use mathlib.Core.Bool.{Bool}
 use mathlib.Core.Path.{◌≡◌, refl, sym, ap, ap₂, ◌∙◌, subst}
-use mathlib.Core.List.{List, [], ◌∷◌, ◌++◌}
+use mathlib.Core.List.{List, ◌++◌}
 use mathlib.Core.Logic.{inl, inr}
 use native.Mathlib.Omega.{arith}
-use types.Run.{OneOf}
-use denote.Enum.Declared.{tag_of}
 use Rattle.laws.proofs.Says.{says_eq}
 use Rattle.laws.proofs.Choice.{either_way}
 use Rattle.cutting.specs.Dissection.{rest, crossed, part_width, part_height, Line}
@@ -16,7 +14,6 @@ use Rattle.nodes.specs.Encoding.{encode}
 use Rattle.tracer.specs.declared.Step.{Step}
 use Rattle.tracer.specs.Inner.{free, WantedPart, beyond, near_wanted, far_wanted, sides_of, step_in, traced, measured, node_of, leaf_length, together, length_most, Wanted, Traceable}
 use Rattle.laws.specs.Inner.{Room, Wrote}
-use Rattle.tracer.specs.contracts.Step.{the_type}
 use Rattle.tracer.proofs.Parts.{part_table}
 use Rattle.laws.proofs.Wrote.{wrote_as}
 use Rattle.tracer.proofs.Wrote.{near_room, far_room, wrote_line}

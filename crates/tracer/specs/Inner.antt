@@ -4,7 +4,7 @@ use Rattle.laws.specs.Inner.{first_number, deep}
 use Rattle.cutting.specs.Inner.{half_of}
 use Rattle.cutting.specs.Limits.{side_max}
 use Rattle.cutting.specs.Piece.{Piece, Inside}
-use Rattle.cutting.specs.Dissection.{rest, crossed, part_width, part_height, Line}
+use Rattle.cutting.specs.Dissection.{rest, crossed, part_width, part_height}
 use Rattle.cutting.specs.Tree.{Tree, Valid, earning}
 use Rattle.fields.specs.Format.{node_length, letter_p, letter_s}
 use Rattle.cells.specs.Inner.{fits, Holds}

@@ -1,6 +1,7 @@
 // The tree for a rectangle by the tree rules.
 // search.rt: the first piece and the least line; next.rt: the next step in a part; walk.rt: the length of the nodes, and the nodes.
 #![tactic(auto)]
+
 mod next;
 mod search;
 pub mod walk;

@@ -6,9 +6,9 @@ use Rattle.board.proofs.lay_out.Goals as goal
 -- `lay_out`: the pieces, then the points.
 pub set_pieces-requires : goal.set_pieces-requires
 set_pieces-requires c = record {
-      count_le_pieces_max = c.requires.job_in_range.count_most;
-      board_value = c.requires.board_value;
-    }
+  count_le_pieces_max = c.requires.job_in_range.count_most;
+  board_value = c.requires.board_value;
+}
 
 pub set_points-requires : goal.set_points-requires
 set_points-requires c = subst Pieced (sym c.set_pieces.ensures) (pieces_pieced _ c.requires.job_in_range)

@@ -1,7 +1,6 @@
 use mathlib.Core.Bool.{Bool}
 use mathlib.Core.Path.{sym, ap}
 use Rattle.board.specs.Inner.{marked_at}
-use borrow.Author.Rules.{rules}
 use Rattle.board.proofs.marked.Goals as goal
 
 -- `marked`: a tall question is one of heights.

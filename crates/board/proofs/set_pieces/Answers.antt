@@ -1,5 +1,4 @@
 use Rattle.board.proofs.Laid.{pieces_laid}
-use borrow.Author.Rules.{rules}
 use Rattle.board.proofs.set_pieces.Goals as goal
 
 -- `set_pieces`: the sides, then one measure of entry after the other.

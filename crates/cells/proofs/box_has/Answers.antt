@@ -1,8 +1,6 @@
-use Prim.Native.Nat.{◌+◌, ◌-◌, ◌≤◌}
-use mathlib.Core.Bool.{false}
-use mathlib.Core.Path.{◌≡◌, sym, ◌∙◌}
+use Prim.Native.Nat.{◌+◌}
+use mathlib.Core.Path.{sym, ◌∙◌}
 use native.Mathlib.Omega.{arith}
-use Rattle.cells.specs.Inner.{any_in_box, sought}
 use Rattle.cells.proofs.Places.{holds_lower}
 use Rattle.cells.proofs.Box.{any_in_box_none, any_in_box_more, any_in_box_found, any_in_box_end}
 use Rattle.cells.proofs.box_has.Goals as goal

@@ -1,10 +1,7 @@
-use Prim.Native.Nat.{◌+◌, ◌-◌, ◌≤◌}
+use Prim.Native.Nat.{◌-◌, ◌≤◌}
 use mathlib.Core.Bool.{false}
-use mathlib.Core.Path.{◌≡◌, sym, ◌∙◌}
-use native.Mathlib.Omega.{arith}
+use mathlib.Core.Path.{◌≡◌}
 use Rattle.cells.specs.Inner.{any_in_box, sought}
-use Rattle.cells.proofs.Places.{holds_lower}
-use Rattle.cells.proofs.Box.{any_in_box_none, any_in_box_more, any_in_box_found, any_in_box_end}
 use Rattle.cells.proofs.box_has.Given as goal
 
 -- `cells::box_has` finds a sought cell in the box. The loop's invariant: there is none in the first j rows.

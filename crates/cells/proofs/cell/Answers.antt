@@ -1,5 +1,4 @@
 use native.Mathlib.Omega.{arith}
-use borrow.Author.Rules.{rules}
 use Rattle.cells.proofs.Places.{place_below}
 use Rattle.cells.proofs.Redrawn.{read_cell}
 use Rattle.cells.proofs.cell.Goals as goal

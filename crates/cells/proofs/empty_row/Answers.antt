@@ -1,9 +1,6 @@
-use Prim.Native.Nat.{◌+◌, ◌-◌, ◌≤◌}
-use mathlib.Core.Path.{◌≡◌, ◌∙◌}
+use mathlib.Core.Path.{◌∙◌}
 use mathlib.Core.Logic.{inl}
 use native.Mathlib.Omega.{arith}
-use lib.ListN.{length}
-use Rattle.cells.specs.Inner.{emptied_where, patch}
 use Rattle.cells.proofs.Sweep.{sweep_none, row_more, row_end}
 use Rattle.cells.proofs.empty_row.Goals as goal
 

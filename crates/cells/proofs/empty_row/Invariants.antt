@@ -1,10 +1,7 @@
 use Prim.Native.Nat.{◌+◌, ◌-◌, ◌≤◌}
-use mathlib.Core.Path.{◌≡◌, ◌∙◌}
-use mathlib.Core.Logic.{inl}
-use native.Mathlib.Omega.{arith}
+use mathlib.Core.Path.{◌≡◌}
 use lib.ListN.{length}
 use Rattle.cells.specs.Inner.{emptied_where, patch}
-use Rattle.cells.proofs.Sweep.{sweep_none, row_more, row_end}
 use Rattle.cells.proofs.empty_row.Given as goal
 
 -- `cells::empty_row` empties row y from column p on. The loop's invariant: so it is before column x.

@@ -1,9 +1,6 @@
-use Prim.Native.Nat.{◌+◌, ◌-◌, ◌≤◌}
-use mathlib.Core.Path.{◌≡◌, ◌∙◌}
+use mathlib.Core.Path.{◌∙◌}
 use mathlib.Core.Logic.{inr}
 use native.Mathlib.Omega.{arith}
-use lib.ListN.{length}
-use Rattle.cells.specs.Inner.{emptied_where, patch}
 use Rattle.cells.proofs.Places.{holds_lower}
 use Rattle.cells.proofs.Sweep.{sweep_none, rows_more, rows_end}
 use Rattle.cells.proofs.empty_where_fits.Goals as goal

@@ -1,11 +1,7 @@
 use Prim.Native.Nat.{◌+◌, ◌-◌, ◌≤◌}
-use mathlib.Core.Path.{◌≡◌, ◌∙◌}
-use mathlib.Core.Logic.{inr}
-use native.Mathlib.Omega.{arith}
+use mathlib.Core.Path.{◌≡◌}
 use lib.ListN.{length}
 use Rattle.cells.specs.Inner.{emptied_where, patch}
-use Rattle.cells.proofs.Places.{holds_lower}
-use Rattle.cells.proofs.Sweep.{sweep_none, rows_more, rows_end}
 use Rattle.cells.proofs.empty_where_fits.Given as goal
 
 -- `cells::empty_where_fits` empties the cells where p by q fits. The loop's invariant: so it is in the rows before y.

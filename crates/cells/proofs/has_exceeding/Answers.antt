@@ -1,4 +1,3 @@
-use borrow.Author.Rules.{rules}
 use Rattle.cells.specs.Inner.{sought, sought_in, exceeds}
 use Rattle.cells.proofs.has_exceeding.Goals as goal
 

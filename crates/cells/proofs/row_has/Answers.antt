@@ -1,11 +1,8 @@
-use Prim.Native.Nat.{◌+◌, ◌-◌, ◌*◌, ◌≤◌}
+use Prim.Native.Nat.{◌+◌}
 use mathlib.Core.Path.{◌≡◌, sym}
 use native.Mathlib.Omega.{arith}
-use Rattle.cutting.specs.Limits.{value_max}
-use Rattle.cells.specs.Inner.{any_in_row, sought}
 use Rattle.cells.proofs.Places.{area_fits}
 use Rattle.cells.proofs.Box.{any_in_row_none, column_more, row_sought}
-use borrow.Author.Rules.{rules}
 use Rattle.cells.proofs.row_has.Goals as goal
 
 pub loop-i-init : goal.loop-i-init

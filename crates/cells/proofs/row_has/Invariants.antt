@@ -1,11 +1,7 @@
-use Prim.Native.Nat.{◌+◌, ◌-◌, ◌*◌, ◌≤◌}
-use mathlib.Core.Path.{◌≡◌, sym}
-use native.Mathlib.Omega.{arith}
+use Prim.Native.Nat.{◌-◌, ◌*◌, ◌≤◌}
+use mathlib.Core.Path.{◌≡◌}
 use Rattle.cutting.specs.Limits.{value_max}
 use Rattle.cells.specs.Inner.{any_in_row, sought}
-use Rattle.cells.proofs.Places.{area_fits}
-use Rattle.cells.proofs.Box.{any_in_row_none, column_more, row_sought}
-use borrow.Author.Rules.{rules}
 use Rattle.cells.proofs.row_has.Given as goal
 
 -- `cells::row_has` finds a sought cell in row w. The loop's invariant: whether there is one in the first i columns, and what they may earn.

@@ -1,4 +1,3 @@
-use borrow.Author.Rules.{rules}
 use Rattle.cells.specs.Inner.{sought, sought_in}
 use Rattle.cells.specs.Box.{is_empty}
 use Rattle.cells.proofs.row_has_empty.Goals as goal

@@ -1,7 +1,6 @@
 use mathlib.Core.Path.{refl, sym, ◌∙◌}
 use native.Mathlib.Omega.{arith}
 use Rattle.checker.proofs.Stages.{framed_says, agreed_tells, answered, refuses_9, refuses_10, refuses_11, judges}
-use borrow.Author.Rules.{rules}
 use Rattle.checker.proofs.check.Goals as goal
 
 -- `check` meets its contract.

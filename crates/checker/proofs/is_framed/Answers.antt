@@ -1,6 +1,5 @@
 use native.Mathlib.Omega.{arith}
 use Rattle.checker.proofs.Stages.{not_framed_lem, framed_last}
-use borrow.Author.Rules.{rules}
 use Rattle.checker.proofs.is_framed.Goals as goal
 
 -- `is_framed` meets its contract.

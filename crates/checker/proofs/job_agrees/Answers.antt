@@ -1,5 +1,4 @@
 use Rattle.checker.proofs.Stages.{agreed_no, agreed_last}
-use borrow.Author.Rules.{rules}
 use Rattle.checker.proofs.job_agrees.Goals as goal
 
 -- `job_agrees` meets its contract.

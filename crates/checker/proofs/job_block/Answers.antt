@@ -1,5 +1,4 @@
 use Rattle.checker.proofs.Stages.{block_done}
-use borrow.Author.Rules.{rules}
 use Rattle.checker.proofs.job_block.Goals as goal
 
 -- `job_block` meets its contract.

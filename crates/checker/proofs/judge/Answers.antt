@@ -1,7 +1,6 @@
 use mathlib.Core.Path.{refl, ◌∙◌}
 use native.Mathlib.Omega.{arith}
 use Rattle.checker.proofs.Stages.{judged_left, judged_value, judged_yes}
-use borrow.Author.Rules.{rules}
 use Rattle.checker.proofs.judge.Goals as goal
 
 -- `judge` meets its contract.

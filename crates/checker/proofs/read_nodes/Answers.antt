@@ -4,7 +4,6 @@ use native.Mathlib.Omega.{arith}
 use lib.Seq.{length-take-le}
 use Rattle.nodes.specs.Inner.{ReadsTo}
 use Rattle.checker.proofs.Stages.{on_board, may_read, nodes_done}
-use borrow.Author.Rules.{rules}
 use Rattle.checker.proofs.read_nodes.Goals as goal
 
 -- `read_nodes` meets its contract.

@@ -1,6 +1,5 @@
 use mathlib.Core.Path.{refl}
 use Rattle.checker.proofs.Stages.{sum_done}
-use borrow.Author.Rules.{rules}
 use Rattle.checker.proofs.sum_agrees.Goals as goal
 
 -- `sum_agrees` meets its contract.

@@ -1,4 +1,3 @@
-use Rattle.std.proofs.Common.{rules}
 use Rattle.fields.specs.Number.{number2_of}
 use Rattle.fields.proofs.number2.Goals as goal
 

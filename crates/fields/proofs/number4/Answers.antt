@@ -1,4 +1,3 @@
-use Rattle.std.proofs.Common.{rules}
 use Rattle.fields.specs.Number.{number4_of}
 use Rattle.fields.proofs.number4.Goals as goal
 

@@ -1,4 +1,4 @@
-use Rattle.std.proofs.Common.{arith, length-set, rules}
+use Rattle.std.proofs.Common.{arith, length-set}
 use Rattle.fields.proofs.Number.{put_bytes2}
 use Rattle.fields.proofs.put2.Goals as goal
 

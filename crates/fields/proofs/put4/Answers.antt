@@ -1,4 +1,4 @@
-use Rattle.std.proofs.Common.{arith, rules}
+use Rattle.std.proofs.Common.{arith}
 use Rattle.fields.proofs.Number.{put_bytes4}
 use Rattle.fields.proofs.put4.Goals as goal
 

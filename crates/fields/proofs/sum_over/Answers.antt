@@ -1,4 +1,4 @@
-use Rattle.std.proofs.Common.{◌≡◌, ◌-◌, ◌<◌, ◌≤◌, length, take, sym, refl, ap, ◌∙◌, arith, take_all, rules}
+use Rattle.std.proofs.Common.{◌<◌, ◌≤◌, length, sym, refl, ap, ◌∙◌, arith, take_all}
 use Rattle.fields.specs.Sum.{running_sum}
 use Rattle.fields.proofs.Sum.{sum_none, sum_more}
 use Rattle.fields.proofs.sum_over.Goals as goal

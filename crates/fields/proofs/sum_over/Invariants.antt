@@ -1,6 +1,5 @@
-use Rattle.std.proofs.Common.{◌≡◌, ◌-◌, ◌<◌, ◌≤◌, length, take, sym, refl, ap, ◌∙◌, arith, take_all, rules}
+use Rattle.std.proofs.Common.{◌≡◌, ◌≤◌, length, take}
 use Rattle.fields.specs.Sum.{running_sum}
-use Rattle.fields.proofs.Sum.{sum_none, sum_more}
 use Rattle.fields.proofs.sum_over.Given as goal
 
 -- `sum_over` meets its contract. The invariant: the sum is that of the first k bytes.

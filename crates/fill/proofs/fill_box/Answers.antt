@@ -1,12 +1,7 @@
-use Prim.Native.Nat.{◌≤◌, ◌-◌}
 use mathlib.Core.Path.{◌≡◌, sym}
 use mathlib.Core.Logic.{inr}
 use native.Mathlib.Omega.{arith}
-use lib.ListN.{length}
-use Rattle.cells.specs.Box.{is_empty, count_in_box}
 use Rattle.cells.proofs.Box.{count_in_box_none}
-use Rattle.board.specs.Inner.{width_on}
-use Rattle.fill.specs.Inner.{filled_on}
 use Rattle.fill.proofs.Growing.{filled_none}
 use Rattle.fill.proofs.Rounds.{box_row, box_more, box_count, box_within}
 use Rattle.fill.proofs.fill_box.Goals as goal
@@ -16,9 +11,9 @@ loop-j-init c = (omega arith, omega arith, filled_none _ _ _ _ _ _ (inr (omega a
 
 pub fill_row-worked-requires : goal.fill_row-worked-requires
 fill_row-worked-requires c = record {
-      row_ready = box_row _ _ _ _ _ _ c.requires.box_ready _ (omega arith) c.loop-j.invariant.2;
-      board_bound = omega arith;
-    }
+  row_ready = box_row _ _ _ _ _ _ c.requires.box_ready _ (omega arith) c.loop-j.invariant.2;
+  board_bound = omega arith;
+}
 
 pub overflow_add-worked : goal.overflow_add-worked
 overflow_add-worked c =
@@ -28,8 +23,7 @@ overflow_add-worked c =
 pub loop-j-preserved : goal.loop-j-preserved
 loop-j-preserved c =
     let inv = c.loop-j.invariant in
-    let ready = c.requires.box_ready in
-    (
+    let ready = c.requires.box_ready in (
       omega arith,
       omega arith,
       box_more _ _ _ _ _ _ ready _ (omega arith) inv.2 c.fill_row-worked.ensures.t_after,

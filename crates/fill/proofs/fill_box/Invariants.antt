@@ -1,14 +1,9 @@
 use Prim.Native.Nat.{◌≤◌, ◌-◌}
-use mathlib.Core.Path.{◌≡◌, sym}
-use mathlib.Core.Logic.{inr}
-use native.Mathlib.Omega.{arith}
+use mathlib.Core.Path.{◌≡◌}
 use lib.ListN.{length}
 use Rattle.cells.specs.Box.{is_empty, count_in_box}
-use Rattle.cells.proofs.Box.{count_in_box_none}
 use Rattle.board.specs.Inner.{width_on}
 use Rattle.fill.specs.Inner.{filled_on}
-use Rattle.fill.proofs.Growing.{filled_none}
-use Rattle.fill.proofs.Rounds.{box_row, box_more, box_count, box_within}
 use Rattle.fill.proofs.fill_box.Given as goal
 
 -- `fill_box`: the loop's invariant is that the first j rows of the box are done.

@@ -1,18 +1,14 @@
-use Prim.Native.Nat.{◌+◌, ◌≤◌, ◌-◌}
 use mathlib.Core.Path.{◌≡◌, refl}
 use native.Mathlib.Omega.{arith}
-use lib.ListN.{length}
-use Rattle.cells.specs.Box.{is_empty, count_in_row}
-use Rattle.board.specs.Inner.{width_on, rows_on}
-use Rattle.fill.specs.Inner.{filled_on}
+use Rattle.board.specs.Inner.{rows_on}
 use Rattle.fill.proofs.Rounds.{entered, entered_count, lines_up, row_around, row_more, row_count, row_within}
 use Rattle.fill.proofs.fill_columns.Goals as goal
 
 pub floor_of-floor-requires : goal.floor_of-floor-requires
 floor_of-floor-requires c = record {
-      lines_up = lines_up _ _ _ _ _ _ _ c.requires.row_ready c.requires.full_before.0;
-      board_bound = c.requires.full_before.1;
-    }
+  lines_up = lines_up _ _ _ _ _ _ _ c.requires.row_ready c.requires.full_before.0;
+  board_bound = c.requires.full_before.1;
+}
 
 pub loop-i-init : goal.loop-i-init
 loop-i-init c =
@@ -32,8 +28,7 @@ unfolding rows_on
 loop-i-preserved c =
     let inv = c.loop-i.invariant in
     let ready = c.requires.row_ready in
-    let floor = c.floor_of-floor.ensures.at _ inv.1 (omega arith) in
-    (
+    let floor = c.floor_of-floor.ensures.at _ inv.1 (omega arith) in (
       omega arith,
       omega arith,
       omega arith,

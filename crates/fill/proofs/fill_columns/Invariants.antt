@@ -1,11 +1,9 @@
 use Prim.Native.Nat.{◌+◌, ◌≤◌, ◌-◌}
-use mathlib.Core.Path.{◌≡◌, refl}
-use native.Mathlib.Omega.{arith}
+use mathlib.Core.Path.{◌≡◌}
 use lib.ListN.{length}
 use Rattle.cells.specs.Box.{is_empty, count_in_row}
-use Rattle.board.specs.Inner.{width_on, rows_on}
+use Rattle.board.specs.Inner.{width_on}
 use Rattle.fill.specs.Inner.{filled_on}
-use Rattle.fill.proofs.Rounds.{entered, entered_count, lines_up, row_around, row_more, row_count, row_within}
 use Rattle.fill.proofs.fill_columns.Given as goal
 
 -- `fill_columns`: the first i cells of the row are done.

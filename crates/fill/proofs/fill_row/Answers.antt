@@ -1,6 +1,5 @@
 use mathlib.Core.Path.{sym, ◌∙◌}
 use Rattle.fill.proofs.Rounds.{row_held, row_full}
-use borrow.Author.Rules.{rules}
 use Rattle.fill.proofs.fill_row.Goals as goal
 
 -- `fill_row`: from the first empty cell on, or nothing.
@@ -9,9 +8,9 @@ row_has_empty-requires c = row_held c.requires.row_ready
 
 pub returns-then-not-row_has_empty : goal.returns-then-not-row_has_empty
 returns-then-not-row_has_empty c = record {
-      value = (row_full _ _ _ _ _ _ c.requires.row_ready (sym c.row_has_empty.ensures ∙ c.if-not-row_has_empty.true)).0;
-      t_after = (row_full _ _ _ _ _ _ c.requires.row_ready (sym c.row_has_empty.ensures ∙ c.if-not-row_has_empty.true)).1;
-    }
+  value = (row_full _ _ _ _ _ _ c.requires.row_ready (sym c.row_has_empty.ensures ∙ c.if-not-row_has_empty.true)).0;
+  t_after = (row_full _ _ _ _ _ _ c.requires.row_ready (sym c.row_has_empty.ensures ∙ c.if-not-row_has_empty.true)).1;
+}
 
 pub first_empty-from-requires : goal.first_empty-from-requires
 first_empty-from-requires c = row_held c.requires.row_ready

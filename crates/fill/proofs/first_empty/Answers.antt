@@ -1,7 +1,4 @@
-use Prim.Native.Nat.{◌+◌, ◌≤◌, ◌-◌}
 use native.Mathlib.Omega.{arith}
-use Rattle.board.specs.Inner.{width_on}
-use Rattle.fill.specs.Inner.{FullBefore}
 use Rattle.fill.proofs.Rounds.{before_none, before_more, row_cells}
 use Rattle.fill.proofs.first_empty.Goals as goal
 
@@ -10,9 +7,9 @@ loop-i-init c = (omega arith, before_none _ _ _ _)
 
 pub cell-requires : goal.cell-requires
 cell-requires c = record {
-      holds = c.requires.0;
-      inside = (row_cells _ _ c.args.x _ c.loop-i.i c.requires.0 c.requires.1 (omega arith)).1;
-    }
+  holds = c.requires.0;
+  inside = (row_cells _ _ c.args.x _ c.loop-i.i c.requires.0 c.requires.1 (omega arith)).1;
+}
 
 pub returns-then-cell : goal.returns-then-cell
 returns-then-cell c = c.loop-i.invariant.1

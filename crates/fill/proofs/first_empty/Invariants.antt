@@ -1,8 +1,6 @@
 use Prim.Native.Nat.{◌+◌, ◌≤◌, ◌-◌}
-use native.Mathlib.Omega.{arith}
 use Rattle.board.specs.Inner.{width_on}
 use Rattle.fill.specs.Inner.{FullBefore}
-use Rattle.fill.proofs.Rounds.{before_none, before_more, row_cells}
 use Rattle.fill.proofs.first_empty.Given as goal
 
 -- `first_empty`: no cell before column i + 1 is empty.

@@ -1,6 +1,5 @@
 use Rattle.desk.proofs.Words.{ask_exactly}
 use Rattle.khonvertseg.proofs.Block.{block_refused, block_given}
-use borrow.Author.Rules.{rules}
 use Rattle.khonvertseg.proofs.ask_block.Goals as goal
 
 -- `ask_block` meets its contract.

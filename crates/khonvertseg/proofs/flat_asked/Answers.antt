@@ -1,6 +1,5 @@
 use mathlib.Core.Path.{ap, sym}
 use Rattle.khonvertseg.specs.Flat.{flat_asked}
-use borrow.Author.Rules.{rules}
 use Rattle.khonvertseg.proofs.flat_asked.Goals as goal
 
 -- `flat_asked` meets its contract.

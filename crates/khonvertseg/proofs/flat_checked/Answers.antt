@@ -1,6 +1,5 @@
 use mathlib.Core.Path.{ap, sym}
 use Rattle.khonvertseg.specs.Flat.{flat_checked}
-use borrow.Author.Rules.{rules}
 use Rattle.khonvertseg.proofs.flat_checked.Goals as goal
 
 -- `flat_checked` meets its contract.

@@ -1,6 +1,5 @@
 use mathlib.Core.Path.{ap, sym}
 use Rattle.khonvertseg.specs.Flat.{flat_planned}
-use borrow.Author.Rules.{rules}
 use Rattle.khonvertseg.proofs.flat_planned.Goals as goal
 
 -- `flat_planned` meets its contract.

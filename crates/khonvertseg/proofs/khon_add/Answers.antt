@@ -1,5 +1,4 @@
 use Rattle.desk.proofs.Words.{add_exactly}
-use borrow.Author.Rules.{rules}
 use Rattle.khonvertseg.proofs.khon_add.Goals as goal
 
 -- `khon_add` meets its contract.

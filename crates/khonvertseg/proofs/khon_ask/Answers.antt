@@ -1,4 +1,3 @@
-use borrow.Author.Rules.{rules}
 use Rattle.khonvertseg.proofs.khon_ask.Goals as goal
 
 -- `khon_ask` meets its contract.

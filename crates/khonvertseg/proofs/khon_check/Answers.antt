@@ -1,7 +1,6 @@
 use mathlib.Core.Path.{sym}
 use native.Mathlib.Omega.{arith}
 use Rattle.checker.proofs.Given.{given_exactly}
-use borrow.Author.Rules.{rules}
 use Rattle.khonvertseg.proofs.khon_check.Goals as goal
 
 -- `khon_check` meets its contract.

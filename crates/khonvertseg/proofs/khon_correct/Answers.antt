@@ -1,5 +1,4 @@
 use Rattle.desk.proofs.Words.{correct_exactly}
-use borrow.Author.Rules.{rules}
 use Rattle.khonvertseg.proofs.khon_correct.Goals as goal
 
 -- `khon_correct` meets its contract.

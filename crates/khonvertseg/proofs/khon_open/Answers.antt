@@ -1,5 +1,4 @@
 use Rattle.desk.proofs.Words.{open_exactly}
-use borrow.Author.Rules.{rules}
 use Rattle.khonvertseg.proofs.khon_open.Goals as goal
 
 -- `khon_open` meets its contract.

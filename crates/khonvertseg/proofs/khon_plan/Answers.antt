@@ -1,4 +1,3 @@
-use borrow.Author.Rules.{rules}
 use Rattle.khonvertseg.proofs.khon_plan.Goals as goal
 
 -- `khon_plan` meets its contract.

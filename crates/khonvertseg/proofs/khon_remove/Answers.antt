@@ -1,5 +1,4 @@
 use Rattle.desk.proofs.Words.{remove_exactly}
-use borrow.Author.Rules.{rules}
 use Rattle.khonvertseg.proofs.khon_remove.Goals as goal
 
 -- `khon_remove` meets its contract.

@@ -1,6 +1,5 @@
 use Rattle.plan.proofs.Plans.{plan_exactly}
 use Rattle.khonvertseg.proofs.Block.{block_refused, block_given}
-use borrow.Author.Rules.{rules}
 use Rattle.khonvertseg.proofs.plan_block.Goals as goal
 
 -- `plan_block` meets its contract.

@@ -1,5 +1,4 @@
 use Rattle.nodes.proofs.Answers.{grown_written}
-use borrow.Author.Rules.{rules}
 use Rattle.nodes.proofs.add_leaf.Goals as goal
 
 -- `add_leaf`: the three sums have grown.

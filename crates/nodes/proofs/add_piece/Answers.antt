@@ -3,7 +3,6 @@ use native.Mathlib.Omega.{arith}
 use Rattle.nodes.specs.Inner.{tally, grown}
 use Rattle.nodes.proofs.Entries.{entry_value}
 use Rattle.nodes.proofs.Room.{piece_room}
-use borrow.Author.Rules.{rules}
 use Rattle.nodes.proofs.add_piece.Goals as goal
 
 -- `add_piece`: its value and its area.

@@ -1,7 +1,6 @@
 use mathlib.Core.Path.{refl, ◌∙◌}
 use native.Mathlib.Omega.{arith}
 use Rattle.nodes.proofs.Rules.{node_short, node_whole}
-use borrow.Author.Rules.{rules}
 use Rattle.nodes.proofs.node_at.Goals as goal
 
 -- `node_at`: whole, and judged by its letter.

@@ -4,7 +4,6 @@ use Rattle.plan.proofs.Tracing.{traceable, measured_short}
 use Rattle.plan.proofs.Exactly.{readable_of, plan_granted}
 use Rattle.plan.proofs.Answers.{refused_answer, written_answer, cell_there, cell_read, length_fits, box_decides, file_decides}
 use Rattle.plan.specs.Inner.{planned, planned_bytes}
-use borrow.Author.Rules.{rules}
 use Rattle.plan.proofs.plan.Goals as goal
 
 -- `plan` answers and writes as it promises.
@@ -14,9 +13,9 @@ returns-then-first-ne0 c = refused_answer _ _ _ (box_decides _ _ _ _ _ c.box_ref
 
 pub lay_out-requires : goal.lay_out-requires
 lay_out-requires c = record {
-      job_in_range = (readable_of _ _ _ _ c.box_refused-first.ensures c.if-first-ne0.false).usable.range;
-      board_value = refl;
-    }
+  job_in_range = (readable_of _ _ _ _ c.box_refused-first.ensures c.if-first-ne0.false).usable.range;
+  board_value = refl;
+}
 
 pub measure-nodes-requires : goal.measure-nodes-requires
 measure-nodes-requires c =

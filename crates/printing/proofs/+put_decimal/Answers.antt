@@ -1,7 +1,5 @@
 use native.Mathlib.Omega.{arith}
-use borrow.Author.Rules.{rules}
 use Rattle.printing.proofs.Decimal.{printed_digit, printed_digits}
-use Prim.Native.Nat.{ℕ, ◌<◌}
 use Rattle.printing.proofs.+put_decimal.Goals as goal
 
 pub digit-requires : goal.digit-requires

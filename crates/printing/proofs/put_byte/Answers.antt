@@ -1,7 +1,6 @@
 use mathlib.Core.Path.{refl}
 use native.Mathlib.Omega.{arith}
 use Rattle.printing.proofs.Printed.{printed_one, printed_none}
-use borrow.Author.Rules.{rules}
 use Rattle.printing.proofs.put_byte.Goals as goal
 
 -- `put_byte` meets its contract.

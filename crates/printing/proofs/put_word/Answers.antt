@@ -1,8 +1,6 @@
-use Prim.Native.Nat.{◌≤◌, ◌<◌, ◌-◌}
+use Prim.Native.Nat.{◌≤◌, ◌<◌}
 use native.Mathlib.Omega.{arith}
-use lib.ListN.{length, take}
-use borrow.Author.Rules.{rules}
-use Rattle.printing.specs.Inner.{Printed}
+use lib.ListN.{length}
 use Rattle.printing.proofs.Printed.{printed_nothing, printed_more, printed_whole, printed_length}
 use Rattle.printing.proofs.put_word.Goals as goal
 

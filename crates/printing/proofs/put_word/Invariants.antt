@@ -1,9 +1,6 @@
-use Prim.Native.Nat.{◌≤◌, ◌<◌, ◌-◌}
-use native.Mathlib.Omega.{arith}
+use Prim.Native.Nat.{◌≤◌, ◌-◌}
 use lib.ListN.{length, take}
-use borrow.Author.Rules.{rules}
 use Rattle.printing.specs.Inner.{Printed}
-use Rattle.printing.proofs.Printed.{printed_nothing, printed_more, printed_whole, printed_length}
 use Rattle.printing.proofs.put_word.Given as goal
 
 -- `put_word` meets its contract. The loop's invariant: the bytes before i are written.

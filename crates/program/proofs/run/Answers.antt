@@ -4,7 +4,6 @@ use Rattle.printing.proofs.Printed.{printed_as}
 use Rattle.program.specs.Program.{new_table}
 use Rattle.program.proofs.Texts.{block_few, block_refused_text, block_text}
 use Rattle.program.proofs.Promise.{kept}
-use borrow.Author.Rules.{rules}
 use Rattle.program.proofs.run.Goals as goal
 
 -- `run` meets its contract. The table starts as `new_table`, and the text has room.

@@ -1,13 +1,10 @@
-use Prim.Native.Nat.{◌-◌, ◌≤◌}
-use mathlib.Core.Path.{◌≡◌, refl}
-use native.Mathlib.Omega.{arith}
-use lib.ListN.{length, get_or, length-set}
+use Prim.Native.Nat.{◌≤◌}
+use mathlib.Core.Path.{◌≡◌}
+use lib.ListN.{length, get_or}
 use Rattle.laws.specs.ByIndex.{by_index}
 use Rattle.laws.specs.Put.{put}
-use Rattle.laws.proofs.Placed.{put_start, put_more}
 use Rattle.job.specs.Job.{no_record}
-use Rattle.board.specs.Inner.{measure_of, entries_of}
-use borrow.Author.Rules.{rules}
+use Rattle.board.specs.Inner.{measure_of}
 use Rattle.board.proofs.pieces.set_entries.Given as goal
 
 -- `set_entries`: the numbers of the first k pieces stand there.

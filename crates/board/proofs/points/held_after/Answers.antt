@@ -1,7 +1,6 @@
 use Prim.Native.Nat.{ℕ, ◌+◌}
 use mathlib.Core.Path.{ap}
 use Rattle.laws.proofs.Choice.{if-false}
-use borrow.Author.Rules.{rules}
 use Rattle.board.proofs.points.held_after.Goals as goal
 
 -- `held_after`: a number's mark is how many steps it is, unless a step leads to it.

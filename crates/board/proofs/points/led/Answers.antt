@@ -1,9 +1,7 @@
-use Prim.Native.Nat.{◌-◌, ◌≤◌}
 use native.Mathlib.Omega.{arith}
 use mathlib.Core.Path.{◌≡◌, sym}
 use Rattle.laws.proofs.Says.{says_no, says_eq}
-use Rattle.board.specs.Inner.{mark_at, step_at}
-use Rattle.board.proofs.Passing.{leads_says, Unled, unled_more, unled_stop}
+use Rattle.board.proofs.Passing.{leads_says, unled_more, unled_stop}
 use Rattle.board.proofs.points.led.Goals as goal
 
 pub loop-j-init : goal.loop-j-init

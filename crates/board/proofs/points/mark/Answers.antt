@@ -1,7 +1,6 @@
-use Prim.Native.Nat.{◌-◌, ◌≤◌}
 use mathlib.Core.Path.{refl}
 use native.Mathlib.Omega.{arith}
-use Rattle.board.proofs.Marking.{PassFrom, passes_start, passes_more, passing_end}
+use Rattle.board.proofs.Marking.{passes_start, passes_more, passing_end}
 use Rattle.board.proofs.points.mark.Goals as goal
 
 pub loop-last-init : goal.loop-last-init

@@ -1,7 +1,5 @@
 use Prim.Native.Nat.{◌-◌, ◌≤◌}
-use mathlib.Core.Path.{refl}
-use native.Mathlib.Omega.{arith}
-use Rattle.board.proofs.Marking.{PassFrom, passes_start, passes_more, passing_end}
+use Rattle.board.proofs.Marking.{PassFrom}
 use Rattle.board.proofs.points.mark.Given as goal
 
 -- `mark`: the sizes, then the pass over the numbers up to the side.

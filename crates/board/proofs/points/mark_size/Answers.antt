@@ -3,7 +3,6 @@ use mathlib.Core.Path.{refl}
 use Rattle.laws.proofs.Choice.{taken, left}
 use Rattle.board.specs.Inner.{with_size}
 use Rattle.board.proofs.Passing.{is_within_says}
-use borrow.Author.Rules.{rules}
 use Rattle.board.proofs.points.mark_size.Goals as goal
 
 -- `mark_size`: a size that is no number of the side leaves the board.

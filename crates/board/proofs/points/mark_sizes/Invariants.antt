@@ -1,9 +1,6 @@
-use Prim.Native.Nat.{◌-◌, ◌≤◌}
-use native.Mathlib.Omega.{arith}
-use mathlib.Core.Path.{◌≡◌, ◌∙◌}
-use Rattle.board.specs.Inner.{count_on, entry_at, marked_by, is_size, with_sizes}
-use Rattle.board.proofs.Passing.{is_size_none}
-use Rattle.board.proofs.Marking.{marking_none, sizes_more}
+use Prim.Native.Nat.{◌≤◌}
+use mathlib.Core.Path.{◌≡◌}
+use Rattle.board.specs.Inner.{entry_at, marked_by, is_size}
 use Rattle.board.proofs.points.mark_sizes.Given as goal
 
 -- `mark_sizes`: the first k sizes are marked.

@@ -1,6 +1,5 @@
 use native.Mathlib.Omega.{arith}
 use Rattle.board.proofs.Laid.{half_length, half_count, half_unmarked, points_laid}
-use borrow.Author.Rules.{rules}
 use Rattle.board.proofs.points.set_points.Goals as goal
 
 -- `set_points`: the marks across, then the marks up.

@@ -2,7 +2,6 @@ use mathlib.Core.Path.{refl}
 use Rattle.desk.proofs.Granted.{add_granted}
 use Rattle.desk.proofs.Answers.{change_refused, change_given}
 use Rattle.desk.specs.Inner.{added_job, added_cells}
-use borrow.Author.Rules.{rules}
 use Rattle.desk.proofs.change.add.Goals as goal
 
 -- `add` answers and empties as it promises.

@@ -2,7 +2,6 @@ use mathlib.Core.Path.{refl, ap, ◌∙◌}
 use Rattle.desk.proofs.Granted.{correct_granted, record_in}
 use Rattle.desk.proofs.Answers.{change_refused, change_given, usable_still, emptied_both}
 use Rattle.desk.specs.Inner.{emptied_size, corrected_job, corrected_cells}
-use borrow.Author.Rules.{rules}
 use Rattle.desk.proofs.change.correct.Goals as goal
 
 -- `correct` answers and empties as it promises: the old size, then the new one.

@@ -1,5 +1,4 @@
 use Rattle.desk.proofs.Answers.{size_holds, size_emptied}
-use borrow.Author.Rules.{rules}
 use Rattle.desk.proofs.change.empty_size.Goals as goal
 
 -- `empty_size` empties with the job's sides and the size.

@@ -2,7 +2,6 @@ use native.Mathlib.Omega.{arith}
 use Rattle.desk.proofs.Granted.{open_granted}
 use Rattle.desk.proofs.Answers.{change_refused, change_given}
 use Rattle.desk.specs.Inner.{opened, opened_cells}
-use borrow.Author.Rules.{rules}
 use Rattle.desk.proofs.change.open.Goals as goal
 
 -- `open` answers and empties as it promises.
@@ -18,9 +17,9 @@ overflow_cast-height c = omega (arith, open_granted _ _ _ c.open_refused-refused
 
 pub empty_where_fits-requires : goal.empty_where_fits-requires
 empty_where_fits-requires c = record {
-      holds = open_granted _ _ _ c.open_refused-refused.ensures c.if-refused-ne0.false;
-      le_p = omega arith;
-    }
+  holds = open_granted _ _ _ c.open_refused-refused.ensures c.if-refused-ne0.false;
+  le_p = omega arith;
+}
 
 pub returns : goal.returns
 unfolding opened opened_cells

@@ -2,7 +2,6 @@ use mathlib.Core.Path.{refl, ap, ◌∙◌}
 use Rattle.desk.proofs.Granted.{remove_granted, record_in}
 use Rattle.desk.proofs.Answers.{change_refused, change_given}
 use Rattle.desk.specs.Inner.{emptied_size, removed_job, removed_cells}
-use borrow.Author.Rules.{rules}
 use Rattle.desk.proofs.change.remove.Goals as goal
 
 -- `remove` answers and empties as it promises.

@@ -1,7 +1,6 @@
 use Rattle.desk.proofs.Granted.{ask_granted, cell_there}
 use Rattle.desk.proofs.Answers.{asked_refused, asked_given, read_at}
 use Rattle.desk.specs.Inner.{asked, asked_cells}
-use borrow.Author.Rules.{rules}
 use Rattle.desk.proofs.question.ask.Goals as goal
 
 -- `ask` answers and fills as it promises.

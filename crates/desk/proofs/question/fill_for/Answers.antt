@@ -1,6 +1,5 @@
 use Rattle.desk.proofs.Exactly.{usable_box}
 use Rattle.desk.proofs.Holding.{box_ready, box_filled, box_still}
-use borrow.Author.Rules.{rules}
 use Rattle.desk.proofs.question.fill_for.Goals as goal
 
 -- `fill_for`: the board that is laid out is the job's; a full box needs none.
@@ -13,9 +12,9 @@ has_empty-requires c =
 
 pub returns-then-not-has_empty : goal.returns-then-not-has_empty
 returns-then-not-has_empty c = record {
-      value = (box_still c.args.job _ _ _ c.wide.ensures.value c.has_empty.ensures c.if-not-has_empty.true).0;
-      t_after = (box_still c.args.job _ _ _ c.wide.ensures.value c.has_empty.ensures c.if-not-has_empty.true).1;
-    }
+  value = (box_still c.args.job _ _ _ c.wide.ensures.value c.has_empty.ensures c.if-not-has_empty.true).0;
+  t_after = (box_still c.args.job _ _ _ c.wide.ensures.value c.has_empty.ensures c.if-not-has_empty.true).1;
+}
 
 pub fill_box-requires : goal.fill_box-requires
 fill_box-requires c =

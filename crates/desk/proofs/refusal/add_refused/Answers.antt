@@ -5,7 +5,6 @@ use Rattle.laws.specs.Inner.{every_number}
 use Rattle.laws.proofs.Refusal.{unless_stops, unless_passes, when_stops, when_passes, accepts, answers, begun_stops, begun_passes}
 use Rattle.desk.specs.Refusals.{add_refusals}
 use Rattle.desk.specs.Inner.{job_refusals, job_tests, job_refused, add_tests, add_refused}
-use borrow.Author.Rules.{rules}
 use Rattle.desk.proofs.refusal.add_refused.Goals as goal
 
 -- `add_refused` goes along its list, which begins as that of `job_refused`.

@@ -5,7 +5,6 @@ use Rattle.laws.proofs.Refusal.{unless_stops, unless_passes, accepts, answers, b
 use Rattle.desk.specs.Refusals.{ask_refusals}
 use Rattle.desk.specs.Inner.{job_refusals, job_tests, job_refused, ask_tests, ask_refused}
 use Rattle.desk.proofs.Exactly.{box_holds, box_test}
-use borrow.Author.Rules.{rules}
 use Rattle.desk.proofs.refusal.ask_refused.Goals as goal
 
 -- `ask_refused` goes along its list, which begins as that of `job_refused`.

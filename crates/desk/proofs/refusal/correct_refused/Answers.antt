@@ -3,7 +3,6 @@ use Rattle.laws.specs.Inner.{every_number}
 use Rattle.laws.proofs.Refusal.{unless_stops, unless_passes, accepts, answers, begun_stops, begun_passes}
 use Rattle.desk.specs.Refusals.{remove_refusals, correct_refusals}
 use Rattle.desk.specs.Inner.{remove_tests, remove_refused, correct_tests, correct_refused}
-use borrow.Author.Rules.{rules}
 use Rattle.desk.proofs.refusal.correct_refused.Goals as goal
 
 -- `correct_refused` goes along its list, which begins as that of `remove_refused`.

@@ -2,7 +2,6 @@ use mathlib.Core.Path.{ap, ◌∙◌}
 use Prim.Native.Nat.{ℕ}
 use Rattle.job.specs.Inner.{within}
 use Rattle.laws.proofs.Tests.{and_no, and_yes}
-use borrow.Author.Rules.{rules}
 use Rattle.desk.proofs.refusal.inside.Goals as goal
 
 -- `inside` meets its contract.

@@ -7,7 +7,6 @@ use Rattle.laws.proofs.Refusal.{unless_stops, unless_passes, accepts, answers}
 use Rattle.desk.specs.Refusals.{cells_of}
 use Rattle.desk.specs.Inner.{job_refusals, job_tests, job_refused}
 use Rattle.desk.proofs.Exactly.{sides_fit}
-use borrow.Author.Rules.{rules}
 use Rattle.desk.proofs.refusal.job_refused.Goals as goal
 
 -- `job_refused` goes along its list.

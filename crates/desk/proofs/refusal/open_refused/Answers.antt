@@ -7,7 +7,6 @@ use Rattle.laws.proofs.Refusal.{unless_stops, unless_passes, accepts, answers}
 use Rattle.desk.specs.Refusals.{open_refusals}
 use Rattle.desk.specs.Inner.{open_tests, open_refused}
 use Rattle.desk.proofs.Exactly.{open_fits}
-use borrow.Author.Rules.{rules}
 use Rattle.desk.proofs.refusal.open_refused.Goals as goal
 
 -- `open_refused` goes along its list.

@@ -4,7 +4,6 @@ use Rattle.laws.proofs.Refusal.{unless_stops, unless_passes, accepts, answers, b
 use Rattle.job.specs.Inner.{within}
 use Rattle.desk.specs.Refusals.{remove_refusals}
 use Rattle.desk.specs.Inner.{job_refusals, job_tests, job_refused, remove_tests, remove_refused}
-use borrow.Author.Rules.{rules}
 use Rattle.desk.proofs.refusal.remove_refused.Goals as goal
 
 -- `remove_refused` goes along its list, which begins as that of `job_refused`.

@@ -1,14 +1,13 @@
 use native.Mathlib.Omega.{arith}
 use Rattle.fill.proofs.Floors.{zeros, floor_done}
-use borrow.Author.Rules.{rules}
 use Rattle.fill.proofs.floor.floor_of.Goals as goal
 
 -- `floor_of`: the pieces, then the lines.
 pub raise_by_pieces-requires : goal.raise_by_pieces-requires
 raise_by_pieces-requires c = record {
-      x_le_side_max = omega arith;
-      columns = zeros _ _ 241;
-    }
+  x_le_side_max = omega arith;
+  columns = zeros _ _ 241;
+}
 
 pub returns : goal.returns
 returns c = floor_done _ _ _ _ _ _ _ _ _ c.raise_by_pieces.ensures c.raise_by_lines.ensures

@@ -1,9 +1,9 @@
-use Prim.Native.Nat.{◌+◌, ◌≤◌, ◌-◌, max}
-use mathlib.Core.Path.{◌≡◌, refl, ap₂}
+use Prim.Native.Nat.{◌+◌}
+use mathlib.Core.Path.{refl, ap₂}
 use native.Mathlib.Omega.{arith}
-use lib.ListN.{length, length-set}
-use Rattle.fill.specs.Inner.{cell_on, parts_on}
-use Rattle.fill.proofs.Floors.{RaisedTo, raised_none, raised_more, raised_end, column_cell, column_fits}
+use lib.ListN.{length-set}
+use Rattle.fill.specs.Inner.{cell_on}
+use Rattle.fill.proofs.Floors.{raised_none, raised_more, raised_end, column_cell, column_fits}
 use Rattle.fill.proofs.Steps.{far_part_lem}
 use Rattle.fill.proofs.floor.raise_by_line.Goals as goal
 

@@ -1,10 +1,8 @@
 use Prim.Native.Nat.{◌+◌, ◌≤◌, ◌-◌, max}
-use mathlib.Core.Path.{◌≡◌, refl, ap₂}
-use native.Mathlib.Omega.{arith}
-use lib.ListN.{length, length-set}
-use Rattle.fill.specs.Inner.{cell_on, parts_on}
-use Rattle.fill.proofs.Floors.{RaisedTo, raised_none, raised_more, raised_end, column_cell, column_fits}
-use Rattle.fill.proofs.Steps.{far_part_lem}
+use mathlib.Core.Path.{◌≡◌}
+use lib.ListN.{length}
+use Rattle.fill.specs.Inner.{parts_on}
+use Rattle.fill.proofs.Floors.{RaisedTo}
 use Rattle.fill.proofs.floor.raise_by_line.Given as goal
 
 -- `raise_by_line`: the columns before u have been raised.

@@ -1,11 +1,6 @@
-use Prim.Native.Nat.{◌≤◌, ◌-◌}
-use mathlib.Core.Path.{◌≡◌, refl}
+use mathlib.Core.Path.{refl}
 use native.Mathlib.Omega.{arith}
-use lib.ListN.{length}
-
-use Rattle.board.specs.Inner.{marked_at}
-use Rattle.fill.specs.Inner.{cell_on, Columns}
-use Rattle.fill.proofs.Floors.{lined, lined_none, lined_marked, lined_unmarked, lined_end}
+use Rattle.fill.proofs.Floors.{lined_none, lined_marked, lined_unmarked, lined_end}
 use Rattle.fill.proofs.floor.raise_by_lines.Goals as goal
 
 pub loop-d-init : goal.loop-d-init

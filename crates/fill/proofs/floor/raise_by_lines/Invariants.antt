@@ -1,11 +1,10 @@
 use Prim.Native.Nat.{◌≤◌, ◌-◌}
-use mathlib.Core.Path.{◌≡◌, refl}
-use native.Mathlib.Omega.{arith}
+use mathlib.Core.Path.{◌≡◌}
 use lib.ListN.{length}
 use mathlib.Core.Bool.{true}
 use Rattle.board.specs.Inner.{marked_at}
 use Rattle.fill.specs.Inner.{cell_on, Columns}
-use Rattle.fill.proofs.Floors.{lined, lined_none, lined_marked, lined_unmarked, lined_end}
+use Rattle.fill.proofs.Floors.{lined}
 use Rattle.fill.proofs.floor.raise_by_lines.Given as goal
 
 -- `raise_by_lines`: the lines at 1, …, d have been tried.

@@ -2,7 +2,6 @@ use mathlib.Core.Path.{ap, ◌∙◌}
 use Prim.Native.Nat.{ℕ, max}
 use native.Mathlib.Omega.{arith}
 use Rattle.fill.proofs.Floors.{piece_low, piece_high}
-use borrow.Author.Rules.{rules}
 use Rattle.fill.proofs.floor.raise_by_piece.Goals as goal
 
 -- `raise_by_piece`: from the piece's width on, where its height fits.

@@ -1,11 +1,7 @@
-use Prim.Native.Nat.{◌≤◌, ◌-◌}
 use mathlib.Core.Path.{◌≡◌, refl}
 use native.Mathlib.Omega.{arith}
-use lib.ListN.{length}
-use Rattle.board.specs.Inner.{count_on, width_at, height_at, value_at}
-use Rattle.fill.specs.Inner.{fitting_value, Columns}
+use Rattle.board.specs.Inner.{count_on}
 use Rattle.fill.proofs.Floors.{pieces_none, pieces_more}
-use borrow.Author.Rules.{rules}
 use Rattle.fill.proofs.floor.raise_by_pieces.Goals as goal
 
 pub loop-k-init : goal.loop-k-init

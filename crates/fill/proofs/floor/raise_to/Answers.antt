@@ -1,8 +1,7 @@
-use Prim.Native.Nat.{◌+◌, ◌≤◌, ◌-◌, max}
-use mathlib.Core.Path.{◌≡◌, refl}
+use mathlib.Core.Path.{refl}
 use native.Mathlib.Omega.{arith}
-use lib.ListN.{length, length-set}
-use Rattle.fill.proofs.Floors.{RaisedTo, raised_none, raised_more, raised_end}
+use lib.ListN.{length-set}
+use Rattle.fill.proofs.Floors.{raised_none, raised_more, raised_end}
 use Rattle.fill.proofs.floor.raise_to.Goals as goal
 
 pub loop-u-init : goal.loop-u-init

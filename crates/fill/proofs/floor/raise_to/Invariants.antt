@@ -1,8 +1,7 @@
 use Prim.Native.Nat.{◌+◌, ◌≤◌, ◌-◌, max}
-use mathlib.Core.Path.{◌≡◌, refl}
-use native.Mathlib.Omega.{arith}
-use lib.ListN.{length, length-set}
-use Rattle.fill.proofs.Floors.{RaisedTo, raised_none, raised_more, raised_end}
+use mathlib.Core.Path.{◌≡◌}
+use lib.ListN.{length}
+use Rattle.fill.proofs.Floors.{RaisedTo}
 use Rattle.fill.proofs.floor.raise_to.Given as goal
 
 -- `raise_to`: the columns before u have been raised.

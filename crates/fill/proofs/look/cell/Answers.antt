@@ -1,13 +1,12 @@
 use Rattle.fill.proofs.Steps.{there, read_there}
-use borrow.Author.Rules.{rules}
 use Rattle.fill.proofs.look.cell.Goals as goal
 
 -- `cell`: the sheet is as wide as the board says.
 pub cell-requires : goal.cell-requires
 cell-requires c = record {
-      holds = (there _ _ _ c.width.ensures (c.requires.holds, c.requires.inside)).0;
-      inside = (there _ _ _ c.width.ensures (c.requires.holds, c.requires.inside)).1;
-    }
+  holds = (there _ _ _ c.width.ensures (c.requires.holds, c.requires.inside)).0;
+  inside = (there _ _ _ c.width.ensures (c.requires.holds, c.requires.inside)).1;
+}
 
 pub returns : goal.returns
 returns c = read_there _ _ _ c.width.ensures c.cell.ensures

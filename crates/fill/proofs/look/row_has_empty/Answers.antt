@@ -1,4 +1,3 @@
-use borrow.Author.Rules.{rules}
 use Rattle.fill.proofs.look.row_has_empty.Goals as goal
 
 -- `row_has_empty`: the sheet is as wide as the board says.

@@ -2,7 +2,6 @@ use Prim.Native.Nat.{ℕ}
 use native.Mathlib.Omega.{arith}
 use Rattle.fill.specs.Inner.{cell_on}
 use Rattle.fill.proofs.Steps.{line_marked, line_unmarked, line_fits, far_part_lem}
-use borrow.Author.Rules.{rules}
 use Rattle.fill.proofs.value.line_at.Goals as goal
 
 -- `line_at`: the two parts' numbers where the line is marked.

@@ -1,10 +1,5 @@
-use Prim.Native.Nat.{◌≤◌, ◌-◌}
-
-use mathlib.Core.Path.{◌≡◌}
 use native.Mathlib.Omega.{arith}
-use Rattle.board.specs.Inner.{marked_at}
-use Rattle.fill.specs.Inner.{cell_on}
-use Rattle.fill.proofs.Steps.{lines_up_to, lines_none, lines_more, lines_end}
+use Rattle.fill.proofs.Steps.{lines_none, lines_more, lines_end}
 use Rattle.fill.proofs.value.line_value.Goals as goal
 
 pub loop-c-init : goal.loop-c-init
@@ -12,9 +7,9 @@ loop-c-init c = (omega arith, lines_none _ _ _)
 
 pub line_at-requires : goal.line_at-requires
 line_at-requires c = record {
-      row_lines = c.requires;
-      le_c = omega arith;
-    }
+  row_lines = c.requires;
+  le_c = omega arith;
+}
 
 pub loop-c-preserved : goal.loop-c-preserved
 loop-c-preserved c =

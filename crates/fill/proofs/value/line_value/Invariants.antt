@@ -1,10 +1,9 @@
 use Prim.Native.Nat.{◌≤◌, ◌-◌}
 use mathlib.Core.Bool.{false}
 use mathlib.Core.Path.{◌≡◌}
-use native.Mathlib.Omega.{arith}
 use Rattle.board.specs.Inner.{marked_at}
 use Rattle.fill.specs.Inner.{cell_on}
-use Rattle.fill.proofs.Steps.{lines_up_to, lines_none, lines_more, lines_end}
+use Rattle.fill.proofs.Steps.{lines_up_to}
 use Rattle.fill.proofs.value.line_value.Given as goal
 
 -- `line_value`: the loop's invariant is that the lines at 1, …, c have been tried.

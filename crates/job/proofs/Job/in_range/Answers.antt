@@ -1,6 +1,5 @@
 use mathlib.Core.Bool.{◌&&◌}
 use lib.Dec.{leb}
-use borrow.Author.Rules.{rules}
 use Rattle.cutting.specs.Limits.{side_max, pieces_max}
 use Rattle.laws.proofs.Tests.{and_no, and_yes, le_no, le_yes}
 use Rattle.job.specs.Inner.{within, pieces_in_range, job_in_range}

@@ -2,7 +2,6 @@ use lib.ListN.{replicate}
 use mathlib.Core.Path.{refl, ap, ◌∙◌}
 use mathlib.Core.List.{[]}
 use native.Mathlib.Omega.{arith}
-use borrow.Author.Rules.{rules}
 use Rattle.laws.proofs.Filled.{filled_none}
 use Rattle.job.specs.Job.{no_record}
 use Rattle.job.proofs.Pieces.{is_job_of}

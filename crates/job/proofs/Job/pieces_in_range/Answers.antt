@@ -1,14 +1,9 @@
-use Prim.Native.Nat.{◌-◌, ◌≤◌}
-
 use mathlib.Core.Path.{◌≡◌, sym, ap, ◌∙◌}
 use native.Mathlib.Omega.{arith}
-use lib.ListN.{get_or}
-use borrow.Author.Rules.{rules}
 use Rattle.laws.proofs.Tests.{all_no, all_yes}
 use Rattle.laws.specs.Inner.{all_below}
 use Rattle.laws.proofs.Below.{all_below_none}
-use Rattle.job.specs.Job.{no_record}
-use Rattle.job.specs.Inner.{piece_in_range, pieces_in_range}
+use Rattle.job.specs.Inner.{pieces_in_range}
 use Rattle.job.proofs.Job.pieces_in_range.Goals as goal
 
 pub loop-k-init : goal.loop-k-init

@@ -1,14 +1,10 @@
-use Prim.Native.Nat.{◌-◌, ◌≤◌}
+use Prim.Native.Nat.{◌≤◌}
 use mathlib.Core.Bool.{true}
-use mathlib.Core.Path.{◌≡◌, sym, ap, ◌∙◌}
-use native.Mathlib.Omega.{arith}
+use mathlib.Core.Path.{◌≡◌}
 use lib.ListN.{get_or}
-use borrow.Author.Rules.{rules}
-use Rattle.laws.proofs.Tests.{all_no, all_yes}
 use Rattle.laws.specs.Inner.{all_below}
-use Rattle.laws.proofs.Below.{all_below_none}
 use Rattle.job.specs.Job.{no_record}
-use Rattle.job.specs.Inner.{piece_in_range, pieces_in_range}
+use Rattle.job.specs.Inner.{piece_in_range}
 use Rattle.job.proofs.Job.pieces_in_range.Given as goal
 
 -- `Job::pieces_in_range` meets its contract. The invariant: the first k pieces are in range.

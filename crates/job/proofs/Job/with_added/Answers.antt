@@ -1,6 +1,5 @@
 use mathlib.Core.Path.{refl}
 use native.Mathlib.Omega.{arith}
-use borrow.Author.Rules.{rules}
 use Rattle.job.proofs.Changed.{moved_fits, added_done}
 use Rattle.job.proofs.Job.with_added.Goals as goal
 

@@ -1,4 +1,3 @@
-use borrow.Author.Rules.{rules}
 use Rattle.job.specs.Job.{zero_job}
 use Rattle.job.proofs.Job.zeros.Goals as goal
 

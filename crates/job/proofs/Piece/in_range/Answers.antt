@@ -1,5 +1,4 @@
 use mathlib.Core.Bool.{◌&&◌}
-use borrow.Author.Rules.{rules}
 use Rattle.laws.proofs.Tests.{and_no, and_yes}
 use Rattle.cutting.specs.Limits.{size_max, value_max}
 use Rattle.job.specs.Inner.{within, piece_in_range}

@@ -4,7 +4,6 @@ use Prim.Native.Nat.{◌≤◌, ◌<◌}
 use mathlib.Core.Path.{ap, ◌∙◌}
 use native.Mathlib.Omega.{arith}
 use lib.ListN.{length}
-use borrow.Author.Rules.{rules}
 use Rattle.laws.proofs.Tests.{le_no, le_yes}
 use Rattle.cutting.specs.Limits.{pieces_max}
 use Rattle.job.specs.Block.{count_in, block_length}

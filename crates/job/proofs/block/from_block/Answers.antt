@@ -1,5 +1,4 @@
 use mathlib.Core.Path.{sym, ◌∙◌}
-use borrow.Author.Rules.{rules}
 use Rattle.job.proofs.Blocks.{shape_says, from_block_no, from_block_yes}
 use Rattle.job.proofs.block.from_block.Goals as goal
 

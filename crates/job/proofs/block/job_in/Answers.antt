@@ -1,4 +1,3 @@
-use borrow.Author.Rules.{rules}
 use Rattle.cutting.specs.Limits.{pieces_max}
 use Rattle.laws.proofs.Filled.{filled_end}
 use Rattle.job.specs.Job.{no_record}

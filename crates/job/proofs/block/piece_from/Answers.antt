@@ -1,4 +1,3 @@
-use borrow.Author.Rules.{rules}
 use Rattle.job.specs.Block.{piece_from}
 use Rattle.job.proofs.block.piece_from.Goals as goal
 

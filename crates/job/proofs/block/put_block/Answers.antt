@@ -1,6 +1,5 @@
 use mathlib.Core.Path.{sym}
 use native.Mathlib.Omega.{arith}
-use borrow.Author.Rules.{rules}
 use Rattle.job.specs.Job.{pieces_of}
 use Rattle.job.proofs.Pieces.{pieces-length}
 use Rattle.job.proofs.Blocks.{put_block_done}

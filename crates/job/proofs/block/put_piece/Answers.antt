@@ -1,5 +1,4 @@
 use native.Mathlib.Omega.{arith}
-use borrow.Author.Rules.{rules}
 use Rattle.job.specs.Block.{bytes_of_piece}
 use Rattle.fields.specs.Number.{bytes2}
 use Rattle.fields.proofs.Number.{bytes2-length, put_three}

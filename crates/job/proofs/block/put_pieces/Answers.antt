@@ -1,13 +1,8 @@
-use Prim.Native.Nat.{◌-◌, ◌≤◌}
+use Prim.Native.Nat.{◌≤◌}
 use mathlib.Core.Path.{◌≡◌, refl, ◌∙◌}
 use native.Mathlib.Omega.{arith}
-use lib.ListN.{length, get_or}
-use borrow.Author.Rules.{rules}
-use Rattle.laws.specs.Put.{put}
-use Rattle.laws.specs.ByIndex.{by_index}
-use Rattle.job.specs.Block.{block_length, bytes_of_pieces}
-use Rattle.fields.specs.Format.{head_bytes}
-use Rattle.job.specs.Job.{piece_of, no_record}
+use lib.ListN.{length}
+use Rattle.job.specs.Block.{block_length}
 use Rattle.job.proofs.Blocks.{put_pieces_none, put_piece_more, put_pieces_end}
 use Rattle.job.proofs.block.put_pieces.Goals as goal
 

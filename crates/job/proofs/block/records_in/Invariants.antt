@@ -1,14 +1,9 @@
-use lib.ListN.{replicate}
-use Prim.Native.Nat.{◌-◌, ◌≤◌}
-use mathlib.Core.Path.{◌≡◌, ap, ◌∙◌}
-use native.Mathlib.Omega.{arith}
-use borrow.Author.Rules.{rules}
+use Prim.Native.Nat.{◌≤◌}
+use mathlib.Core.Path.{◌≡◌}
 use Rattle.cutting.specs.Limits.{pieces_max}
 use Rattle.laws.specs.Inner.{filled_row}
-use Rattle.laws.proofs.Filled.{filled_none, filled_more, filled_end}
 use Rattle.job.specs.Job.{record_of, no_record}
 use Rattle.job.specs.Block.{piece_in}
-use Rattle.job.proofs.Blocks.{piece_in_lem}
 use Rattle.job.proofs.block.records_in.Given as goal
 
 -- `block::records_in` meets its contract. The invariant: the first k records are read.

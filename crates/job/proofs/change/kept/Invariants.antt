@@ -1,14 +1,10 @@
-use lib.ListN.{replicate, get_or}
-use Prim.Native.Nat.{◌-◌, ◌≤◌, ◌<◌}
-use mathlib.Core.Path.{◌≡◌, ap, ◌∙◌}
-use native.Mathlib.Omega.{arith}
-use borrow.Author.Rules.{rules}
+use lib.ListN.{get_or}
+use Prim.Native.Nat.{◌≤◌}
+use mathlib.Core.Path.{◌≡◌}
 use Rattle.cutting.specs.Limits.{pieces_max}
 use Rattle.laws.specs.Inner.{filled_row}
-use Rattle.laws.proofs.Filled.{filled_none, filled_end}
 use Rattle.job.specs.Job.{no_record}
 use Rattle.job.specs.Inner.{moved_from}
-use Rattle.job.proofs.Changed.{kept_more}
 use Rattle.job.proofs.change.kept.Given as goal
 
 -- `change::kept` meets its contract. The invariant: the first k records are kept.

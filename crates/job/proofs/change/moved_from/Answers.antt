@@ -1,5 +1,4 @@
 use mathlib.Core.Path.{sym}
-use borrow.Author.Rules.{rules}
 use Rattle.job.proofs.Changed.{moved_low, moved_high}
 use Rattle.job.proofs.change.moved_from.Goals as goal
 

@@ -1,6 +1,5 @@
 use Rattle.printing.proofs.Printed.{printed_both}
 use Rattle.listing.specs.Line.{ended}
-use borrow.Author.Rules.{rules}
 use Rattle.listing.proofs.line.put_ended.Goals as goal
 
 -- `put_ended` meets its contract.

@@ -1,6 +1,5 @@
 use Rattle.printing.proofs.Printed.{printed_both}
 use Rattle.listing.specs.Line.{head_text}
-use borrow.Author.Rules.{rules}
 use Rattle.listing.proofs.line.put_head.Goals as goal
 
 -- `put_head` meets its contract.

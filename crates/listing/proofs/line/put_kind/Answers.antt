@@ -1,7 +1,6 @@
 use mathlib.Core.Path.{sym, ap}
 use Rattle.printing.proofs.Printed.{printed_as}
 use Rattle.listing.specs.Line.{word_of}
-use borrow.Author.Rules.{rules}
 use Rattle.listing.proofs.line.put_kind.Goals as goal
 
 -- `put_kind` meets its contract.

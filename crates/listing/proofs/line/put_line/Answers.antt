@@ -1,6 +1,5 @@
 use Rattle.printing.proofs.Printed.{printed_both}
 use Rattle.listing.specs.Line.{line_text}
-use borrow.Author.Rules.{rules}
 use Rattle.listing.proofs.line.put_line.Goals as goal
 
 -- `put_line` meets its contract.

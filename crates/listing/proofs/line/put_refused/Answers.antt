@@ -1,6 +1,5 @@
 use Rattle.printing.proofs.Printed.{printed_both}
 use Rattle.listing.specs.Line.{refused_text}
-use borrow.Author.Rules.{rules}
 use Rattle.listing.proofs.line.put_refused.Goals as goal
 
 -- `put_refused` meets its contract.

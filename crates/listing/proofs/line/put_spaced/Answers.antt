@@ -1,6 +1,5 @@
 use Rattle.printing.proofs.Printed.{printed_both}
 use Rattle.listing.specs.Line.{spaced}
-use borrow.Author.Rules.{rules}
 use Rattle.listing.proofs.line.put_spaced.Goals as goal
 
 -- `put_spaced` meets its contract.

@@ -1,7 +1,5 @@
-use Prim.Native.Nat.{ℕ, ◌+◌, ◌<◌}
 use mathlib.Core.Path.{refl, sym, ap, ◌∙◌}
 use native.Mathlib.Omega.{arith}
-use borrow.Author.Rules.{rules}
 use Rattle.nodes.proofs.Entries.{few_on}
 use Rattle.nodes.proofs.Rules.{node_tells}
 use Rattle.printing.proofs.Printed.{printed_as}

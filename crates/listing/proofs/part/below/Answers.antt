@@ -1,4 +1,3 @@
-use borrow.Author.Rules.{rules}
 use Rattle.listing.proofs.Parts.{below_is}
 use Rattle.listing.proofs.part.below.Goals as goal
 

@@ -1,4 +1,3 @@
-use borrow.Author.Rules.{rules}
 use Rattle.listing.proofs.Parts.{may_read}
 use Rattle.listing.proofs.Texts.{earns}
 use Rattle.listing.proofs.part.earning.Goals as goal

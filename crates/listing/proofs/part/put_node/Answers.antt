@@ -1,4 +1,3 @@
-use borrow.Author.Rules.{rules}
 use Rattle.printing.proofs.Printed.{printed_as, printed_nothing}
 use Rattle.listing.proofs.Texts.{line_text_lem, piece_text, scrap_text, broken_text}
 use Rattle.listing.proofs.part.put_node.Goals as goal

@@ -2,7 +2,6 @@ use mathlib.Core.Bool.{true, false}
 use mathlib.Core.Path.{◌∙◌}
 use native.Mathlib.Omega.{arith}
 use Rattle.nodes.proofs.Rules.{on_line, on_P, on_S, on_other}
-use borrow.Author.Rules.{rules}
 use Rattle.nodes.proofs.rule.by_letter.Goals as goal
 
 -- `by_letter`: each letter has its rule.

@@ -2,7 +2,6 @@ use native.Mathlib.Omega.{arith}
 use mathlib.Core.Path.{refl, sym}
 use Rattle.laws.proofs.Choice.{chosen, not_chosen}
 use Rattle.nodes.proofs.Rules.{is_inside_says}
-use borrow.Author.Rules.{rules}
 use Rattle.nodes.proofs.rule.line_node.Goals as goal
 
 -- `line_node`: kept inside the side.

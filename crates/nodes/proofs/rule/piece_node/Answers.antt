@@ -3,7 +3,6 @@ use native.Mathlib.Omega.{arith}
 use Rattle.laws.proofs.Choice.{chosen, not_chosen}
 use Rattle.nodes.proofs.Rules.{is_piece_says}
 use Rattle.nodes.proofs.Entries.{entry_numbered, entry_last, entry_width, entry_height}
-use borrow.Author.Rules.{rules}
 use Rattle.nodes.proofs.rule.piece_node.Goals as goal
 
 -- `piece_node`: kept where the number's entry is of this size.

@@ -1,7 +1,6 @@
 use native.Mathlib.Omega.{arith}
 use Rattle.fields.specs.Number.{bytes4}
 use Rattle.fields.proofs.Number.{bytes4-length, put_three}
-use borrow.Author.Rules.{rules}
 use Rattle.plan.proofs.file.put_pointers.Goals as goal
 
 -- `put_pointers` meets its contract: three numbers of four bytes, one behind the other.

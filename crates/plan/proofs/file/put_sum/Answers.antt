@@ -2,7 +2,6 @@ use mathlib.Core.Path.{sym}
 use native.Mathlib.Omega.{arith}
 use lib.Seq.{length-take-le}
 use Rattle.plan.proofs.Writing.{sum-put}
-use borrow.Author.Rules.{rules}
 use Rattle.plan.proofs.file.put_sum.Goals as goal
 
 -- `put_sum` meets its contract.

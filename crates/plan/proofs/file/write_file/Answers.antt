@@ -1,15 +1,14 @@
 use native.Mathlib.Omega.{arith}
 use Rattle.plan.proofs.Filing.{block_fits, nodes_fit, pointers_fit, sum_fits, filed}
 use Rattle.plan.proofs.Tracing.{traceable, nodes_room, nodes_wrote}
-use borrow.Author.Rules.{rules}
 use Rattle.plan.proofs.file.write_file.Goals as goal
 
 -- `write_file` writes the parts of the file, one behind the other.
 pub put_block-requires : goal.put_block-requires
 put_block-requires c = record {
-      count_le_pieces_max = (block_fits _ _ _ _ _ c.requires.ready.0).0;
-      count_in_bounds = (block_fits _ _ _ _ _ c.requires.ready.0).1;
-    }
+  count_le_pieces_max = (block_fits _ _ _ _ _ c.requires.ready.0).0;
+  count_in_bounds = (block_fits _ _ _ _ _ c.requires.ready.0).1;
+}
 
 pub write-at-requires : goal.write-at-requires
 write-at-requires c =

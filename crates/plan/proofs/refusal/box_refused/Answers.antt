@@ -7,7 +7,6 @@ use Rattle.desk.proofs.Exactly.{box_holds, box_test}
 use Rattle.plan.proofs.Exactly.{empty_test}
 use Rattle.plan.specs.Refusals.{plan_refusals}
 use Rattle.plan.specs.Inner.{plan_tests, box_refused}
-use borrow.Author.Rules.{rules}
 use Rattle.plan.proofs.refusal.box_refused.Goals as goal
 
 -- `box_refused` goes along its list, which begins as that of `job_refused`.

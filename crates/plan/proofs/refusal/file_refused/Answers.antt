@@ -1,5 +1,4 @@
 use Rattle.plan.proofs.Answers.{file_struck, file_long, file_fits}
-use borrow.Author.Rules.{rules}
 use Rattle.plan.proofs.refusal.file_refused.Goals as goal
 
 -- `file_refused`: the nodes have no length, or the file has room, or not.

@@ -1,8 +1,5 @@
-use Prim.Native.Nat.{◌≤◌, ◌-◌}
 use mathlib.Core.Path.{◌≡◌, refl, ◌∙◌}
-use lib.ListN.{length}
 use native.Mathlib.Omega.{arith}
-use borrow.Author.Rules.{rules}
 use Rattle.program.specs.Entry.{added_all}
 use Rattle.program.proofs.Entered.{added_more, added_end}
 use Rattle.program.proofs.entry.add_all.Goals as goal

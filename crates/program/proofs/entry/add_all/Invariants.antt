@@ -1,10 +1,7 @@
-use Prim.Native.Nat.{◌≤◌, ◌-◌}
-use mathlib.Core.Path.{◌≡◌, refl, ◌∙◌}
+use Prim.Native.Nat.{◌≤◌}
+use mathlib.Core.Path.{◌≡◌}
 use lib.ListN.{length}
-use native.Mathlib.Omega.{arith}
-use borrow.Author.Rules.{rules}
 use Rattle.program.specs.Entry.{added_all}
-use Rattle.program.proofs.Entered.{added_more, added_end}
 use Rattle.program.proofs.entry.add_all.Given as goal
 
 -- `add_all` meets its contract. The invariant: the first k pieces are added.

@@ -1,6 +1,5 @@
 use mathlib.Core.Path.{refl}
 use Rattle.program.proofs.Entered.{entered_as}
-use borrow.Author.Rules.{rules}
 use Rattle.program.proofs.entry.enter.Goals as goal
 
 -- `enter` meets its contract.

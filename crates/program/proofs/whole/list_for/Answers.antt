@@ -1,5 +1,4 @@
 use Rattle.program.proofs.Lines.{may_list, lists_plan}
-use borrow.Author.Rules.{rules}
 use Rattle.program.proofs.whole.list_for.Goals as goal
 
 -- `list_for` meets its contract.

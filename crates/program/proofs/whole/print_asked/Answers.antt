@@ -5,7 +5,6 @@ use Rattle.program.specs.Sizes.{plan_room}
 use Rattle.program.specs.Program.{plan_text, tree_lines}
 use Rattle.printing.proofs.Printed.{printed_as}
 use Rattle.program.proofs.Texts.{plan_range, plan_held, plan_refused_text, plan_written_text}
-use borrow.Author.Rules.{rules}
 use Rattle.program.proofs.whole.print_asked.Goals as goal
 
 -- `print_asked` meets its contract.

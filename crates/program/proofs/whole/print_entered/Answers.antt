@@ -1,6 +1,5 @@
 use Rattle.printing.proofs.Printed.{printed_as}
 use Rattle.program.proofs.Texts.{entered_refused_text, entered_text_lem}
-use borrow.Author.Rules.{rules}
 use Rattle.program.proofs.whole.print_entered.Goals as goal
 
 -- `print_entered` meets its contract.

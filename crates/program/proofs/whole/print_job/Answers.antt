@@ -1,6 +1,5 @@
 use Rattle.printing.proofs.Printed.{printed_as}
 use Rattle.program.proofs.Texts.{ask_refused_text, ask_answered_text}
-use borrow.Author.Rules.{rules}
 use Rattle.program.proofs.whole.print_job.Goals as goal
 
 -- `print_job` meets its contract.

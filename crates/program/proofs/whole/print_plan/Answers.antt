@@ -1,7 +1,6 @@
 use mathlib.Core.Path.{ap₂}
 use Rattle.printing.proofs.Printed.{printed_as, printed_both}
 use Rattle.listing.specs.Line.{head_text}
-use borrow.Author.Rules.{rules}
 use Rattle.program.proofs.whole.print_plan.Goals as goal
 
 -- `print_plan` meets its contract.

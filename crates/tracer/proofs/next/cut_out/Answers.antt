@@ -1,6 +1,5 @@
 use Prim.Native.Nat.{◌-◌}
 use native.Mathlib.Omega.{arith}
-use borrow.Author.Rules.{rules}
 use Rattle.board.specs.Inner.{rows_on}
 use Rattle.tracer.proofs.Steps.{cut_across, cut_up, cut_none}
 use Rattle.tracer.proofs.next.cut_out.Goals as goal

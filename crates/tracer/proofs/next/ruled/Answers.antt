@@ -1,5 +1,4 @@
 use native.Mathlib.Omega.{arith}
-use borrow.Author.Rules.{rules}
 use Rattle.board.specs.Inner.{rows_on}
 use Rattle.tracer.proofs.Steps.{rule1, rule2, rule3, rule4, rule5, rule6, piece_among}
 use Rattle.tracer.proofs.next.ruled.Goals as goal

@@ -1,5 +1,4 @@
 use native.Mathlib.Omega.{arith}
-use borrow.Author.Rules.{rules}
 use Rattle.tracer.proofs.Parts.{crossed_most}
 use Rattle.tracer.proofs.Tests.{adds_unmarked, adds_marked}
 use Rattle.tracer.proofs.search.adds_to.Goals as goal

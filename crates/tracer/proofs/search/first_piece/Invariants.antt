@@ -1,11 +1,8 @@
 use Prim.Native.Nat.{◌-◌, ◌≤◌}
-use native.Mathlib.Omega.{arith}
-use mathlib.Core.Path.{◌≡◌, ◌∙◌}
-use borrow.Author.Rules.{rules}
+use mathlib.Core.Path.{◌≡◌}
 use Rattle.laws.specs.Inner.{first_number}
-use Rattle.laws.proofs.First.{number_start, number_more, number_stop, number_end}
 use Rattle.board.specs.Inner.{rows_on}
-use Rattle.tracer.specs.Inner.{suits, first_piece}
+use Rattle.tracer.specs.Inner.{suits}
 use Rattle.tracer.proofs.search.first_piece.Given as goal
 
 -- `first_piece`: none of the first k pieces suits.

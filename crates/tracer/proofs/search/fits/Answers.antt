@@ -1,5 +1,4 @@
 use mathlib.Core.Path.{◌∙◌}
-use borrow.Author.Rules.{rules}
 use Rattle.tracer.proofs.Tests.{fits_no, fits_yes}
 use Rattle.tracer.proofs.search.fits.Goals as goal
 

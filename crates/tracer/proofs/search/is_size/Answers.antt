@@ -1,5 +1,4 @@
 use mathlib.Core.Path.{◌∙◌}
-use borrow.Author.Rules.{rules}
 use Rattle.tracer.proofs.Tests.{same_no, same_yes, same_read}
 use Rattle.tracer.proofs.search.is_size.Goals as goal
 

@@ -1,12 +1,7 @@
-use Prim.Native.Nat.{ℕ, suc, ◌-◌, ◌≤◌}
 use native.Mathlib.Omega.{arith}
 use native.Mathlib.Numerals.{add-one}
-use mathlib.Core.Path.{◌≡◌, ap, ◌∙◌}
-use borrow.Author.Rules.{rules}
-use Rattle.laws.specs.Inner.{first_number}
+use mathlib.Core.Path.{ap, ◌∙◌}
 use Rattle.laws.proofs.First.{number_start, number_more, number_stop, number_end}
-use Rattle.cells.specs.Cells.{cell_of}
-use Rattle.board.specs.Inner.{rows_on, width_on}
 use Rattle.tracer.specs.Inner.{adds_to, least_line}
 use Rattle.tracer.proofs.Parts.{crossed_most}
 use Rattle.tracer.proofs.search.least_line.Goals as goal
@@ -20,9 +15,9 @@ overflow_add-before c =
 
 pub adds_to-requires : goal.adds_to-requires
 adds_to-requires c = record {
-      on_table = c.requires;
-      le_c = (omega arith, omega arith);
-    }
+  on_table = c.requires;
+  le_c = (omega arith, omega arith);
+}
 
 pub narrow-requires : goal.narrow-requires
 narrow-requires c =

@@ -1,14 +1,9 @@
 use Prim.Native.Nat.{ℕ, suc, ◌-◌, ◌≤◌}
-use native.Mathlib.Omega.{arith}
-use native.Mathlib.Numerals.{add-one}
-use mathlib.Core.Path.{◌≡◌, ap, ◌∙◌}
-use borrow.Author.Rules.{rules}
+use mathlib.Core.Path.{◌≡◌}
 use Rattle.laws.specs.Inner.{first_number}
-use Rattle.laws.proofs.First.{number_start, number_more, number_stop, number_end}
 use Rattle.cells.specs.Cells.{cell_of}
 use Rattle.board.specs.Inner.{rows_on, width_on}
-use Rattle.tracer.specs.Inner.{adds_to, least_line}
-use Rattle.tracer.proofs.Parts.{crossed_most}
+use Rattle.tracer.specs.Inner.{adds_to}
 use Rattle.tracer.proofs.search.least_line.Given as goal
 
 -- `least_line`: no line up to `before` is marked and adds to the number.

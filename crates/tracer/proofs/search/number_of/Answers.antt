@@ -1,5 +1,4 @@
 use native.Mathlib.Omega.{arith}
-use borrow.Author.Rules.{rules}
 use Rattle.tracer.proofs.Parts.{table_read, cell_read}
 use Rattle.tracer.proofs.search.number_of.Goals as goal
 
@@ -14,6 +13,6 @@ cell-requires c =
 
 pub returns : goal.returns
 returns c = record {
-      value = cell_read _ _ _ c.widened.ensures c.cell.ensures c.width.ensures;
-      upper_bound = omega arith;
-    }
+  value = cell_read _ _ _ c.widened.ensures c.cell.ensures c.width.ensures;
+  upper_bound = omega arith;
+}

@@ -1,5 +1,4 @@
 use mathlib.Core.Path.{◌∙◌}
-use borrow.Author.Rules.{rules}
 use Rattle.board.specs.Inner.{rows_on}
 use Rattle.tracer.proofs.Tests.{suits_no, suits_exact, suits_fitting}
 use Rattle.tracer.proofs.search.suits.Goals as goal

@@ -1,5 +1,4 @@
 use native.Mathlib.Omega.{arith}
-use borrow.Author.Rules.{rules}
 use Rattle.tracer.proofs.Parts.{part_table}
 use Rattle.tracer.proofs.Tests.{two_read}
 use Rattle.tracer.proofs.search.two_cells.Goals as goal

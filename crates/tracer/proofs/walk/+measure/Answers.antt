@@ -1,9 +1,5 @@
-use Prim.Native.Nat.{ℕ, ◌+◌, ◌<◌}
 use native.Mathlib.Omega.{arith}
-use borrow.Author.Rules.{rules}
-use Rattle.cells.specs.Cells.{cell_of}
-use Rattle.board.specs.Inner.{rows_on, width_on}
-use Rattle.tracer.proofs.Walked.{leaf_measured, line_inside, near_call, far_call, answered, Answered}
+use Rattle.tracer.proofs.Walked.{leaf_measured, line_inside, near_call, far_call, answered}
 use Rattle.tracer.proofs.walk.+measure.Goals as goal
 
 pub next_step-next-requires : goal.next_step-next-requires

@@ -1,6 +1,4 @@
-use Prim.Native.Nat.{ℕ, ◌+◌, ◌<◌}
 use native.Mathlib.Omega.{arith}
-use borrow.Author.Rules.{rules}
 use Rattle.tracer.proofs.Wrote.{node_room}
 use Rattle.tracer.proofs.Walked.{leaf_written, line_inside, near_write, far_write, line_written}
 use Rattle.tracer.proofs.walk.+write.Goals as goal

@@ -1,5 +1,4 @@
 use mathlib.Core.Path.{sym, ap}
-use borrow.Author.Rules.{rules}
 use Rattle.tracer.specs.Inner.{leaf_length}
 use Rattle.tracer.proofs.walk.leaf_length.Goals as goal
 

@@ -1,4 +1,3 @@
-use borrow.Author.Rules.{rules}
 use Rattle.tracer.proofs.Lengths.{no_near, no_far, both_long}
 use Rattle.tracer.proofs.walk.together.Goals as goal
 

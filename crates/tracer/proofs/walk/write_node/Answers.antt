@@ -1,7 +1,6 @@
 use mathlib.Core.Path.{◌∙◌}
 use lib.ListN.{length-set}
 use native.Mathlib.Omega.{arith}
-use borrow.Author.Rules.{rules}
 use Rattle.tracer.proofs.Wrote.{wrote_node}
 use Rattle.tracer.proofs.walk.write_node.Goals as goal
 

@@ -1,4 +1,3 @@
-use borrow.Author.Rules.{rules}
 use Rattle.tracer.specs.Inner.{node_of}
 use Rattle.tracer.proofs.Wrote.{wrote_step, wrote_letter}
 use Rattle.tracer.proofs.walk.write_step.Goals as goal

@@ -28,7 +28,7 @@ run: ## cuts an example sheet, 3 by 3, with two kinds of piece: 1 by 2 worth 2, 
 	    $(MAKE) -s $(PROGRAM) >target/run.log 2>&1 || { tail -n 20 target/run.log; exit 1; }; }
 	printf '3 3\n1 2 2\n2 3 6\n' | tools/cut
 
-test: ## proves everything from nothing, tries every must-fail edit, runs all tests (the gate, .ci/run)
+test: ## proves all that was not proved before, tries every must-fail edit, runs all tests (the gate, .ci/run)
 	bash .ci/run
 
 archive: $(ARCHIVE) ## target/staticlib/libkhonvertseg.a, for C

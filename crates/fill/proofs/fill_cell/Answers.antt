@@ -5,17 +5,15 @@ use Rattle.fill.proofs.fill_cell.Goals as goal
 
 -- `fill_cell`: a filled cell is left, an empty one gets the larger of its floor and the lines across.
 pub returns-then-cell : goal.returns-then-cell
-returns-then-cell c = record {
-  value = (cell_kept c.args.floor (marked_at c.args.board.now false) _ _ _ _ c.cell.ensures c.if-cell.true).0;
-  t_after = (cell_kept c.args.floor (marked_at c.args.board.now false) _ _ _ _ c.cell.ensures c.if-cell.true).1;
-}
+returns-then-cell c =
+    let both = cell_kept c.args.floor (marked_at c.args.board.now false) _ _ _ _ c.cell.ensures c.if-cell.true in
+    record { value = both.0; t_after = both.1 }
 
 pub line_value-line-requires : goal.line_value-line-requires
 line_value-line-requires c = around_lines _ _ _ _ c.requires
 
 pub returns : goal.returns
 returns c =
-    record {
-      value = (cell_worked c.args.floor (marked_at c.args.board.now false) _ _ _ _ _ c.cell.ensures c.if-cell.false c.line_value-line.ensures c.larger.ensures c.store.ensures).0;
-      t_after = (cell_worked c.args.floor (marked_at c.args.board.now false) _ _ _ _ _ c.cell.ensures c.if-cell.false c.line_value-line.ensures c.larger.ensures c.store.ensures).1;
-    }
+    let both = cell_worked c.args.floor (marked_at c.args.board.now false) _ _ _ _ _
+    c.cell.ensures c.if-cell.false c.line_value-line.ensures c.larger.ensures c.store.ensures in
+    record { value = both.0; t_after = both.1 }

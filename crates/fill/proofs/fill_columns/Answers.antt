@@ -12,7 +12,8 @@ floor_of-floor-requires c = record {
 
 pub loop-i-init : goal.loop-i-init
 loop-i-init c =
-    (omega arith, omega arith, refl, entered _ _ _ _ _ _ _ c.requires.row_ready c.requires.full_before.0, entered_count _ _ _ _ _ _ _ c.requires.row_ready c.requires.full_before.0)
+    let full = c.requires.full_before.0 in
+    (omega arith, omega arith, refl, entered _ _ _ _ _ _ _ c.requires.row_ready full, entered_count _ _ _ _ _ _ _ c.requires.row_ready full)
 
 pub fill_cell-worked-requires : goal.fill_cell-worked-requires
 fill_cell-worked-requires c = row_around _ _ _ _ _ _ c.requires.row_ready _ (omega arith) c.loop-i.invariant.3

@@ -9,7 +9,8 @@ use Rattle.fill.proofs.fill_columns.Given as goal
 -- `fill_columns`: the first i cells of the row are done.
 abbrev pub invariant-loop-i : goal.invariant-loop-i
 invariant-loop-i l =
-    (l.i ≤ l.x) × (l.from ≤ l.i + 1) × (length l.t ≡ length l.initial.t) × (l.t ≡ filled_on l.board l.i l.w l.initial.t) × (l.worked ≡ count_in_row l.i l.w (is_empty (width_on l.board) l.initial.t))
+    (l.i ≤ l.x) × (l.from ≤ l.i + 1) × (length l.t ≡ length l.initial.t) × (l.t ≡ filled_on l.board l.i l.w l.initial.t)
+    × (l.worked ≡ count_in_row l.i l.w (is_empty (width_on l.board) l.initial.t))
 
 abbrev pub decreases-loop-i : goal.decreases-loop-i
 decreases-loop-i l = l.x - l.i

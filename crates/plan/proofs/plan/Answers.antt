@@ -37,10 +37,8 @@ returns-then-second-ne0 c =
 
 pub cell-value-requires : goal.cell-value-requires
 cell-value-requires c =
-    record {
-      holds = (cell_there _ _ _ _ (readable_of _ _ _ _ c.box_refused-first.ensures c.if-first-ne0.false) c.wide.ensures.value).0;
-      inside = (cell_there _ _ _ _ (readable_of _ _ _ _ c.box_refused-first.ensures c.if-first-ne0.false) c.wide.ensures.value).1;
-    }
+    let both = cell_there _ _ _ _ (readable_of _ _ _ _ c.box_refused-first.ensures c.if-first-ne0.false) c.wide.ensures.value in
+    record { holds = both.0; inside = both.1 }
 
 pub write_file-length-requires : goal.write_file-length-requires
 write_file-length-requires c =

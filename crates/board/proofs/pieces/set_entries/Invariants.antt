@@ -10,4 +10,5 @@ use Rattle.board.proofs.pieces.set_entries.Given as goal
 -- `set_entries`: the numbers of the first k pieces stand there.
 abbrev pub invariant-loop-k : goal.invariant-loop-k
 invariant-loop-k l =
-    (l.k ≤ l.count) × (length l.board ≡ length l.initial.board) × (l.board ≡ put l.initial.board l.first (by_index (λ i. measure_of l.measure (get_or l.job.pieces i no_record)) l.k))
+    (l.k ≤ l.count) × (length l.board ≡ length l.initial.board)
+    × (l.board ≡ put l.initial.board l.first (by_index (λ i. measure_of l.measure (get_or l.job.pieces i no_record)) l.k))

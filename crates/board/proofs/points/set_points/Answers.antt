@@ -5,7 +5,14 @@ use Rattle.board.proofs.points.set_points.Goals as goal
 -- `set_points`: the marks across, then the marks up.
 pub mark-requires : goal.mark-requires
 mark-requires c =
-    record { few = c.requires.few; apart = omega arith; room = omega arith; long = c.requires.long; within = omega (arith, c.requires.wide); none = c.requires.none_across }
+    record {
+      few = c.requires.few;
+      apart = omega arith;
+      room = omega arith;
+      long = c.requires.long;
+      within = omega (arith, c.requires.wide);
+      none = c.requires.none_across;
+    }
 
 pub mark-requires-2 : goal.mark-requires-2
 mark-requires-2 c =

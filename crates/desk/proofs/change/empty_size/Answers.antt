@@ -4,10 +4,9 @@ use Rattle.desk.proofs.change.empty_size.Goals as goal
 -- `empty_size` empties with the job's sides and the size.
 pub empty_where_fits-requires : goal.empty_where_fits-requires
 empty_where_fits-requires c =
-    record {
-      holds = (size_holds _ c.args.size _ c.requires.usable c.requires.le_width c.wide.ensures.value c.wide-2.ensures.value c.wide-3.ensures.value c.wide-4.ensures.value).0;
-      le_p = (size_holds _ c.args.size _ c.requires.usable c.requires.le_width c.wide.ensures.value c.wide-2.ensures.value c.wide-3.ensures.value c.wide-4.ensures.value).1;
-    }
+    let both = size_holds _ c.args.size _ c.requires.usable c.requires.le_width
+    c.wide.ensures.value c.wide-2.ensures.value c.wide-3.ensures.value c.wide-4.ensures.value in
+    record { holds = both.0; le_p = both.1 }
 
 pub returns : goal.returns
 returns c =

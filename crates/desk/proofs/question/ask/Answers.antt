@@ -20,10 +20,8 @@ fill_for-worked-requires c =
 pub cell-value-requires : goal.cell-value-requires
 cell-value-requires c =
     let granted = ask_granted _ _ _ _ c.ask_refused-refused.ensures c.if-refused-ne0.false in
-    record {
-      holds = (cell_there _ _ _ _ granted c.fill_for-worked.ensures.t_after c.wide.ensures.value).0;
-      inside = (cell_there _ _ _ _ granted c.fill_for-worked.ensures.t_after c.wide.ensures.value).1;
-    }
+    let both = cell_there _ _ _ _ granted c.fill_for-worked.ensures.t_after c.wide.ensures.value in
+    record { holds = both.0; inside = both.1 }
 
 pub returns : goal.returns
 unfolding asked asked_cells

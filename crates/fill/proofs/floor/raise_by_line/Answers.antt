@@ -12,17 +12,13 @@ loop-u-init c = (omega arith, omega arith, refl, raised_none _ _ _)
 
 pub cell-requires : goal.cell-requires
 cell-requires c =
-    record {
-      holds = (column_cell _ _ _ _ _ _ _ c.requires.lines_up c.loop-u.invariant.0 (omega arith) (omega arith) (omega arith)).0;
-      inside = (column_cell _ _ _ _ _ _ _ c.requires.lines_up c.loop-u.invariant.0 (omega arith) (omega arith) (omega arith)).1;
-    }
+    let both = column_cell _ _ _ _ _ _ _ c.requires.lines_up c.loop-u.invariant.0 (omega arith) (omega arith) (omega arith) in
+    record { holds = both.0; inside = both.1 }
 
 pub cell-requires-in-loop-u : goal.cell-requires-in-loop-u
 cell-requires-in-loop-u c =
-    record {
-      holds = (column_cell _ _ _ _ _ _ _ c.requires.lines_up c.loop-u.invariant.0 (omega arith) (omega arith) (omega arith)).0;
-      inside = (column_cell _ _ _ _ _ _ _ c.requires.lines_up c.loop-u.invariant.0 (omega arith) (omega arith) (omega arith)).1;
-    }
+    let both = column_cell _ _ _ _ _ _ _ c.requires.lines_up c.loop-u.invariant.0 (omega arith) (omega arith) (omega arith) in
+    record { holds = both.0; inside = both.1 }
 
 pub overflow_add-cell : goal.overflow_add-cell
 overflow_add-cell c =

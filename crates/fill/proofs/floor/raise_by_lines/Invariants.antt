@@ -10,7 +10,8 @@ use Rattle.fill.proofs.floor.raise_by_lines.Given as goal
 -- `raise_by_lines`: the lines at 1, …, d have been tried.
 abbrev pub invariant-loop-d : goal.invariant-loop-d
 invariant-loop-d l =
-    (l.d ≤ l.half) × (length l.floor ≡ length l.initial.floor) × Columns l.from l.x (lined (marked_at l.board true) (cell_on l.board l.t) l.w l.initial.floor l.d) l.floor
+    (l.d ≤ l.half) × (length l.floor ≡ length l.initial.floor)
+    × Columns l.from l.x (lined (marked_at l.board true) (cell_on l.board l.t) l.w l.initial.floor l.d) l.floor
 
 abbrev pub decreases-loop-d : goal.decreases-loop-d
 decreases-loop-d l = l.half - l.d

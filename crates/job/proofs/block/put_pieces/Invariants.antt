@@ -11,4 +11,5 @@ use Rattle.job.proofs.block.put_pieces.Given as goal
 -- `block::put_pieces` meets its contract. The invariant: the first k pieces are written.
 abbrev pub invariant-loop-k : goal.invariant-loop-k
 invariant-loop-k l =
-    (l.k ≤ l.count) × (length l.o ≡ length l.initial.o) × (l.o ≡ put l.initial.o head_bytes (bytes_of_pieces (by_index (λ i. piece_of (get_or l.pieces i no_record)) l.k)))
+    (l.k ≤ l.count) × (length l.o ≡ length l.initial.o)
+    × (l.o ≡ put l.initial.o head_bytes (bytes_of_pieces (by_index (λ i. piece_of (get_or l.pieces i no_record)) l.k)))

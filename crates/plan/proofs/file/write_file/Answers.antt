@@ -5,10 +5,9 @@ use Rattle.plan.proofs.file.write_file.Goals as goal
 
 -- `write_file` writes the parts of the file, one behind the other.
 pub put_block-requires : goal.put_block-requires
-put_block-requires c = record {
-  count_le_pieces_max = (block_fits _ _ _ _ _ c.requires.ready.0).0;
-  count_in_bounds = (block_fits _ _ _ _ _ c.requires.ready.0).1;
-}
+put_block-requires c =
+    let both = block_fits _ _ _ _ _ c.requires.ready.0 in
+    record { count_le_pieces_max = both.0; count_in_bounds = both.1 }
 
 pub write-at-requires : goal.write-at-requires
 write-at-requires c =

@@ -6,7 +6,5 @@ use Rattle.program.proofs.entry.enter.Goals as goal
 pub returns : goal.returns
 returns c =
     let opened = c.open-start.ensures in
-    record {
-      value = (entered_as _ _ c.long.ensures c.long-2.ensures opened.0 opened.1 refl c.add_all.ensures.value c.add_all.ensures.cells_after).0;
-      cells_after = (entered_as _ _ c.long.ensures c.long-2.ensures opened.0 opened.1 refl c.add_all.ensures.value c.add_all.ensures.cells_after).1;
-    }
+    let both = entered_as _ _ c.long.ensures c.long-2.ensures opened.0 opened.1 refl c.add_all.ensures.value c.add_all.ensures.cells_after in
+    record { value = both.0; cells_after = both.1 }

@@ -3,14 +3,21 @@ use Rattle.std.specs.Prelude.{ℕ, zero, suc, ◌+◌, ◌-◌, ◌*◌, ◌<◌
 use Rattle.std.proofs.Math.Nat.{min-le_right}
 use Rattle.laws.specs.Inner.{any_below, Says}
 use Rattle.laws.specs.ByIndex.{by_index}
-use Rattle.cutting.specs.Limits.{pieces_max}
+use Rattle.cutting.specs.Limits.{side_max, pieces_max}
 use Rattle.cutting.specs.Piece.{Piece, sized, Numbered, Lays}
 use Rattle.cutting.specs.Points.{P, Q}
 use Rattle.job.specs.declared.Piece.{Piece as Record}
 use Rattle.job.specs.declared.Job.{Job}
 use Rattle.job.specs.Job.{no_record}
 use Rattle.board.specs.declared.Board.{Board}
-pub use Rattle.board.specs.Room.{entries, mark_count}
+
+-- Room for records: more than a job has pieces.
+abbrev pub entries : ℕ
+entries = 128
+
+-- One mark for each number that a side can be, and one for zero.
+abbrev pub mark_count : ℕ
+mark_count = side_max + 1
 
 -- What stands on a board.
 

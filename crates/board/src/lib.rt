@@ -3,7 +3,7 @@
 #![tactic(auto)]
 
 ghost use Rattle.std.specs.Prelude.{◌≤◌};
-ghost use Rattle.board.specs.Room.{entries};
+ghost use Rattle.board.specs.declared.TheConstants.{ENTRIES};
 
 use job::{Job, Piece};
 use points::marks_of;
@@ -28,14 +28,14 @@ pub struct Board {
     pieces: [Piece; ENTRIES],
     across: Marks,
     up: Marks,
-    pub ghost few: { count ≤ entries },
+    pub ghost few: { count ≤ ENTRIES },
 }
 
 impl Board {
     ghost use Rattle.std.specs.Prelude.{◌≡◌, ◌<◌};
     ghost use Rattle.cutting.specs.Limits.{side_max, pieces_max};
     ghost use Rattle.job.specs.Range.{JobInRange};
-    ghost use Rattle.board.specs.Inner.{width_on, height_on, count_on, width_at, height_at, value_at, marked_at, pieces_board, board_of};
+    ghost use Rattle.board.specs.Inner.{entries, width_on, height_on, count_on, width_at, height_at, value_at, marked_at, pieces_board, board_of};
 
     // The job's sides and pieces, without marks: all that reading a plan file needs.
     pub fn of_pieces(job: &Job) -> Board

@@ -1,7 +1,7 @@
 // The points of P and Q as marks, found in one pass from small to large. Widths and heights are one code: it gets the size of a piece.
 ghost use Rattle.std.specs.Prelude.{◌≡◌, ℕ, ◌+◌, ◌<◌, ◌≤◌, List, [], ◌∷◌, ◌++◌, length, take};
 ghost use Rattle.cutting.specs.Limits.{side_max};
-ghost use Rattle.board.specs.Room.{mark_count};
+ghost use Rattle.board.specs.declared.TheConstants.{MARKS};
 ghost use Rattle.board.specs.Inner.{mark_at, step_at, Gives, size_marks, leads, Rising, marks_of};
 
 use crate::{MARKS, Marks};
@@ -20,7 +20,7 @@ impl Model for Steps {
 
     ghost view = { λ s. take s.held s.row };
 
-    ghost invariant = { λ s. s.held ≤ mark_count };
+    ghost invariant = { λ s. s.held ≤ MARKS };
 }
 
 impl Steps {
@@ -34,7 +34,7 @@ impl Steps {
     }
 
     fn push(&mut self, step: u16)
-        requires { length self.old < mark_count }
+        requires { length self.old < MARKS }
         ensures { self.new ≡ self.old ++ step ∷ [] }
     {
         self.row[self.held] = step;

@@ -10,6 +10,7 @@ use Rattle.board.specs.Inner.{marks_of, with_points, board_of, width_on, height_
 use Rattle.board.proofs.Laid.{same_board, first_record}
 use Rattle.board.proofs.Board.of.Goals as goal
 
+-- `of`: the sizes for P are the widths of the first records, and those for Q the heights.
 pub marks_of-across-requires-clause-within : goal.marks_of-across-requires-clause-within
 unfolding pieces_board
 marks_of-across-requires-clause-within c = omega (arith, c.width.ensures, ap width_on c.of_pieces-board.ensures, c.requires.width_most)

@@ -8,6 +8,7 @@ use Rattle.board.specs.Inner.{pieces_board}
 use Rattle.board.proofs.Laid.{same_board}
 use Rattle.board.proofs.Board.of_pieces.Goals as goal
 
+-- `of_pieces`: the job's records, and blank ones behind.
 pub returns : goal.returns
 unfolding pieces_board
 returns c =

@@ -5,6 +5,7 @@ use Rattle.board.proofs.Passing.{leads_says, unled_stop}
 use lib.ListN.{length}
 use Rattle.board.proofs.points.led.Goals as goal
 
+-- `led`: the first step that is too large ends the search.
 pub returns-then-c-step : goal.returns-then-c-step
 returns-then-c-step c =
     sym (says_no (leads_says _ _ _ _) (unled_stop _ _ _ _ _ c.requires.rising c.loop-step.invariant (omega (arith, c.from-step.ensures))))

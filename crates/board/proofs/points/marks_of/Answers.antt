@@ -8,6 +8,7 @@ use Rattle.board.proofs.Marking.{Further, passing_start, passing_end, pass_on, a
 use Rattle.board.proofs.points.marks_of.Goals as goal
 use Rattle.board.proofs.points.marks_of.Goals.{then-led, else-led+then-marks-last, else-led+else-marks-last}
 
+-- `marks_of`: a turn goes on where a step leads to the number, where it is a size, or where it is neither.
 pub loop-last-init : goal.loop-last-init
 loop-last-init g c = rw c.new-steps.ensures (omega arith, ascending_none, λ of gives. passing_start (c.size_marks-marks.ensures of gives))
 

@@ -7,6 +7,7 @@ use Rattle.board.proofs.Marking.{sizes_none, sizes_set, sizes_skip}
 use Rattle.board.proofs.points.size_marks.Goals as goal
 use Rattle.board.proofs.points.size_marks.Goals.{then-own-ge1+then-own-side, else-own-ge1}
 
+-- `size_marks`: a size that is no number of the side leaves the marks.
 pub loop-piece-init : goal.loop-piece-init
 loop-piece-init g c of gives = sizes_none of _ c.requires.within
 

@@ -1,8 +1,9 @@
 -- The laws of the job block: its length, how it is written piece by piece, and that reading and writing are inverse.
 use Rattle.std.specs.Prelude.{Some, None}
+use Rattle.std.proofs.lemmas.Option.{cond_some, none-some}
 use Rattle.std.proofs.lemmas.List.{drop-replicate, get_or-take}
 use Prim.Native.Nat.{ℕ, zero, suc, ◌+◌, ◌-◌, ◌*◌, ◌≤◌, ◌<◌}
-use mathlib.Core.Bool.{Bool, true, false, cond}
+use mathlib.Core.Bool.{Bool, cond}
 use mathlib.Core.Path.{◌≡◌, refl, sym, ap, ap₂, subst, ◌∙◌}
 use mathlib.Core.Logic.{◌⊎◌, inl, inr}
 use mathlib.Core.List.{List, [], ◌∷◌, ◌++◌, append_assoc, append-nil}
@@ -121,6 +122,16 @@ from_block_no s h = sym (from_block_by s (says_no (shape_says s) h))
 
 pub from_block_yes : (s : List ℕ) {job : Job} → BlockShape s → job ≡ job_in s → Some job ≡ from_block s
 from_block_yes s h e = ap Some e ∙ sym (from_block_by s ((shape_says s).found h))
+
+-- What the answer tells.
+pub from_block_some : (s : List ℕ) {job : Job} → Some job ≡ from_block s → BlockShape s × (job ≡ job_in s)
+unfolding from_block
+from_block_some s {job} e =
+    let h = cond_some (block_shape s) (job_in s) job (sym e) in
+    ((shape_says s).means h.0, sym h.1)
+
+pub from_block_none : (s : List ℕ) → None ≡ from_block s → BlockShape s → ⊥
+from_block_none s e h = none-some (job_in s) (e ∙ sym (from_block_yes s h refl))
 
 -- The records that are read, and those behind them.
 pub records_read : (s : List ℕ) (count : ℕ) (front back : List Record) → count ≤ pieces_max → length front ≡ count

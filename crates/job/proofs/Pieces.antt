@@ -1,5 +1,5 @@
 -- The laws of pieces_of and job_of: the pieces of a job that has given pieces are those, and what makes a job that one.
-use Rattle.std.proofs.Common.{◌≡◌, ◌≢◌, ℕ, ◌+◌, ◌-◌, ◌≤◌, ◌<◌, List, [], ◌++◌, length, get_or, take, drop, set, replicate, refl, sym, ap, ap₂, ◌∙◌, append-nil, arith, ⊎_elim, length-append, length-drop, length-set, get_or-set_same, get_or-set_other, drop-drop}
+use Rattle.std.proofs.Common.{◌≡◌, ℕ, ◌+◌, ◌-◌, ◌≤◌, ◌<◌, List, [], ◌++◌, length, get_or, take, drop, set, replicate, refl, sym, ap, ap₂, ◌∙◌, append-nil, arith, ⊎_elim, length-append, length-drop, length-set, get_or-set_same, get_or-set_other, drop-drop}
 use lib.ListN.{get_or-append, get_or-eq_default}
 use Rattle.std.proofs.lemmas.List.{length-replicate, get_or-replicate, get_or-append_right, length-take-le, drop_all, get_or-take}
 use Rattle.std.specs.Array.{AllOfLen}

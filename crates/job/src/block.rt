@@ -58,14 +58,11 @@ pub fn from_block(s: &[u8]) -> Option<Job>
     if s.len() != block_length(usize::from(count)) {
         return None;
     }
-    let width = u16::read(s, 0);
-    let height = u16::read(s, SECOND_NUMBER);
-    let pieces = records_in(s, usize::from(count));
     Some(Job {
-        width,
-        height,
+        width: u16::read(s, 0),
+        height: u16::read(s, SECOND_NUMBER),
         count,
-        pieces,
+        pieces: records_in(s, usize::from(count)),
     })
 }
 

@@ -1,4 +1,4 @@
-use Rattle.std.proofs.Common.{[], refl}
+use Rattle.std.proofs.Common.{[]}
 use Rattle.job.proofs.Pieces.{is_job_of, are_zeros}
 use Rattle.job.proofs.Job.new.Goals as goal
 

@@ -19,7 +19,13 @@ returns-then-s-block_length c =
 pub returns : goal.returns
 returns c =
     let s = c.args.s.now in
-    let shape : BlockShape s = record { head = omega arith; most = omega (arith, c.read-count.ensures); whole = omega (arith, c.if-s-block_length.false, c.block_length.ensures, c.from.ensures, c.read-count.ensures) } in
+    let n = c.read-count.ensures in
+    let shape : BlockShape s =
+    record {
+      head = omega arith;
+      most = omega (arith, n);
+      whole = omega (arith, c.if-s-block_length.false, c.block_length.ensures, c.from.ensures, n);
+    } in
     from_block_yes s shape
-    (job_in_done s c.read-width.ensures c.read-height.ensures c.read-count.ensures
-    (c.records_in-pieces.ensures ∙ ap (λ n. records_of (by_index (piece_in s) n)) c.from-2.ensures))
+    (job_in_done s c.read.ensures c.read-2.ensures n
+    (c.records_in.ensures ∙ ap (λ n. records_of (by_index (piece_in s) n)) c.from-2.ensures))

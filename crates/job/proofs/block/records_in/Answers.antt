@@ -12,9 +12,9 @@ loop-k-preserved c =
     let long = c.loop-k.invariant.0 in (
       length-set items c.loop-k.k c.piece_from.result ∙ long,
       below_more _ _
-      (λ k h. let other : k ≢ c.loop-k.k = omega arith in rw get_or-set_other (c.loop-k.invariant.1 k h))
-      (let inside : c.loop-k.k < length items = omega arith in
-      rw get_or-set_same (piece_in_lem _ c.loop-k.k c.block_length.ensures c.piece_from.ensures)),
+          (λ k h. let other : k ≢ c.loop-k.k = omega arith in rw get_or-set_other (c.loop-k.invariant.1 k h))
+          (let inside : c.loop-k.k < length items = omega arith in
+          rw get_or-set_same (piece_in_lem _ c.loop-k.k c.block_length.ensures c.piece_from.ensures)),
     )
 
 pub returns : goal.returns

@@ -84,7 +84,7 @@ lists_pieces board pieces l =
 
 module _ (job : Job) (few : job.count ≤ pieces_max) where
   -- Records that are the job's, on any board that counts as many.
-  job_listed : (board : Board) → count_on board ≡ job.count → ((k : ℕ) → record_at board k ≡ get_or job.pieces k no_record)
+  job_listed : (board : Board) → count_on board ≡ job.count → ((k : ℕ) → k < job.count → record_at board k ≡ get_or job.pieces k no_record)
       → Lists (rows_on board) (pieces_of job)
   unfolding rows_on
   job_listed board e same =
@@ -92,7 +92,7 @@ module _ (job : Job) (few : job.count ≤ pieces_max) where
         count = e ∙ sym (pieces-of-length job);
         piece = λ k h. let b : k < job.count = omega (arith, e) in
             rw add-one
-            (listed_numbered (record { within = omega (arith, pieces-of-length job); is = pieces_at job k b ∙ sym (ap piece_of (same k)) }));
+            (listed_numbered (record { within = omega (arith, pieces-of-length job); is = pieces_at job k b ∙ sym (ap piece_of (same k b)) }));
       }
 
   pub board_width : width_on (board_of job) ≡ job.width

@@ -35,24 +35,26 @@ pub first_record : (n : ℕ) (records : List Record) (k : ℕ) → k < length (t
     → get_or (take n records) k no_record ≡ get_or records k no_record
 first_record n records k h = get_or-take n records k no_record (omega (arith, h, length-take n records))
 
--- The records on the board are the job's, and none behind them.
-pub pieces_record : (job : Job) (k : ℕ) → record_at (pieces_board job) k ≡ get_or job.pieces k no_record
-unfolding pieces_board
-pieces_record job k = ⊎_elim (λ h. past h) (λ h. get_or-append job.pieces rest no_record k h) (le_or_lt (length job.pieces) k)
+-- Blank records behind others change nothing.
+pub blank_behind : (first : List Record) (m k : ℕ) → get_or (first ++ replicate m no_record) k no_record ≡ get_or first k no_record
+blank_behind first m k = ⊎_elim (λ h. past h) (λ h. get_or-append first rest no_record k h) (le_or_lt (length first) k)
   where
     rest : List Record
-    rest = replicate (entries - pieces_max) no_record
+    rest = replicate m no_record
 
-    past : length job.pieces ≤ k → get_or (job.pieces ++ rest) k no_record ≡ get_or job.pieces k no_record
-    past h =
-        get_or-append_right job.pieces rest k no_record h
-        ∙ (none (k - length job.pieces) ∙ sym (get_or-eq_default job.pieces no_record {n = k} h))
+    past : length first ≤ k → get_or (first ++ rest) k no_record ≡ get_or first k no_record
+    past h = get_or-append_right first rest k no_record h ∙ (none (k - length first) ∙ sym (get_or-eq_default first no_record {n = k} h))
       where
         none : (j : ℕ) → get_or rest j no_record ≡ no_record
         none j =
-            ⊎_elim (λ l. get_or-eq_default rest no_record {n = j} (omega (arith, length-replicate {A = Record} (entries - pieces_max) no_record)))
-            (λ l. get_or-replicate {A = Record} (entries - pieces_max) j no_record no_record l)
-            (le_or_lt (entries - pieces_max) j)
+            ⊎_elim (λ l. get_or-eq_default rest no_record {n = j} (omega (arith, length-replicate {A = Record} m no_record)))
+            (λ l. get_or-replicate {A = Record} m j no_record no_record l) (le_or_lt m j)
+
+-- The first n records on the board are the job's.
+pub pieces_record : (job : Job) (k : ℕ) → k < job.count → record_at (pieces_board job) k ≡ get_or job.pieces k no_record
+unfolding pieces_board
+pieces_record job k h =
+    blank_behind (take job.count job.pieces) (entries - job.count) k ∙ get_or-take job.count job.pieces k no_record h
 
 pub pieces_width : (job : Job) → width_on (pieces_board job) ≡ job.width
 unfolding pieces_board

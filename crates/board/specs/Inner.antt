@@ -1,9 +1,9 @@
 -- The board as it computes; nobody has to believe it: `board_holds` says that it holds the job's pieces and the points of P and Q.
-use Rattle.std.specs.Prelude.{ℕ, zero, suc, ◌+◌, ◌-◌, ◌*◌, ◌<◌, ◌≤◌, min, Bool, true, false, cond, ◌&&◌, ◌||◌, ◌≡◌, List, [], ◌∷◌, ◌++◌, leb, ltb, eqb, length, get_or, replicate}
+use Rattle.std.specs.Prelude.{ℕ, zero, suc, ◌+◌, ◌-◌, ◌*◌, ◌<◌, ◌≤◌, min, Bool, true, false, cond, ◌&&◌, ◌||◌, ◌≡◌, List, [], ◌∷◌, ◌++◌, leb, ltb, eqb, length, get_or, take, replicate}
 use Rattle.std.proofs.Math.Nat.{min-le_right}
 use Rattle.laws.specs.Inner.{any_below, Says}
 use Rattle.laws.specs.ByIndex.{by_index}
-use Rattle.cutting.specs.Limits.{side_max, pieces_max}
+use Rattle.cutting.specs.Limits.{side_max}
 use Rattle.cutting.specs.Piece.{Piece, sized, Numbered, Lays}
 use Rattle.cutting.specs.Points.{P, Q}
 use Rattle.job.specs.declared.Piece.{Piece as Record}
@@ -159,7 +159,7 @@ pieces_board job =
       width = job.width;
       height = job.height;
       count = min job.count entries;
-      pieces = job.pieces ++ replicate (entries - pieces_max) no_record;
+      pieces = take job.count job.pieces ++ replicate (entries - job.count) no_record;
       across = no_marks;
       up = no_marks;
       few = min-le_right job.count entries;

@@ -43,7 +43,7 @@ impl Board {
         ensures { result ≡ pieces_board job.now }
     {
         let mut pieces = [Piece::default(); ENTRIES];
-        pieces[..job.pieces.len()].copy_from_slice(&job.pieces);
+        pieces[..usize::from(job.count)].copy_from_slice(job.pieces());
         Board {
             width: job.width,
             height: job.height,

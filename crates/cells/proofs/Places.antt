@@ -72,3 +72,10 @@ same_place {a} i j e = (
   sym (place_column i) ∙ (ap (λ k. k % a + 1) e ∙ place_column j),
   sym (place_row i) ∙ (ap (λ k. k / a + 1) e ∙ place_row j),
 )
+
+-- The first x places of row w are in the table.
+pub row_within : {a w : ℕ} {t : List ℕ} (x : ℕ) → Holds a w t → x ≤ a → place a 1 w + x ≤ a * w
+unfolding place
+row_within {a} {w} x s h =
+    let k : suc (w - 1) * a ≤ w * a = mul-le-mul_right a (omega arith) in
+    omega (arith, suc-mul (w - 1) a, mul_comm a w)

@@ -6,7 +6,7 @@ use Rattle.desk.proofs.question.fill_for.Goals as goal
 pub has_empty-requires : goal.has_empty-requires
 has_empty-requires c =
     let both = usable_box _ _ _ _ c.requires.usable c.requires.inside c.wide.ensures.value in
-    record { holds = both.0; x_le_a = both.1 }
+    record { holds = both.0; within = both.1 }
 
 pub returns-then-not-has_empty : goal.returns-then-not-has_empty
 returns-then-not-has_empty c =

@@ -1,7 +1,7 @@
 // The row of cells of a sheet. Where a cell lies in the row is known here alone; everyone above says (x, y).
 #![tactic(auto)]
 
-ghost use Rattle.std.specs.Prelude.{ℕ, ◌+◌, Bool, ◌≤◌, ◌<◌, ◌≡◌, length, set, slice_index};
+ghost use Rattle.std.specs.Prelude.{ℕ, ◌+◌, ◌*◌, Bool, ◌≤◌, ◌<◌, ◌≡◌, length, set, slice_index};
 ghost use Rattle.cutting.specs.Limits.{side_max};
 ghost use Rattle.cutting.specs.Piece.{Inside};
 ghost use Rattle.cells.specs.Cells.{cell_of, place as place_of};
@@ -17,7 +17,8 @@ pub const EMPTY: u32 = 4_294_967_295;
 fn place(a: usize, x: usize, y: usize) -> usize
     requires in_range { a ≤ side_max }
     requires inside { Inside x y a side_max }
-    ensures { result ≡ place_of a x y }
+    ensures is { result ≡ place_of a x y }
+    ensures below { result < a * y }
 {
     (y - 1) * a + (x - 1)
 }
@@ -28,8 +29,7 @@ pub fn cell(t: &[u32], a: usize, x: usize, y: usize) -> u32
     requires inside { Inside x y a y }
     ensures { result ≡ cell_of a t.now x y }
 {
-    let k = place(a, x, y);
-    t[k]
+    t[place(a, x, y)]
 }
 
 // Puts a number into cell (x, y).
@@ -38,8 +38,7 @@ pub fn store(t: &mut [u32], a: usize, x: usize, y: usize, value: u32)
     requires inside { Inside x y a y }
     ensures { t.new ≡ set t.old (place_of a x y) value }
 {
-    let k = place(a, x, y);
-    t[k] = value;
+    t[place(a, x, y)] = value;
 }
 
 // The numbers of the cells in columns 1 to x of row w.

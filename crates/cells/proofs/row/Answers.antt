@@ -5,17 +5,11 @@ use Rattle.cells.proofs.Redrawn.{row_cell}
 use Rattle.cells.proofs.row.Goals as goal
 
 -- `cells::row`: the cells of a row stand beside one another.
-pub overflow_add-result : goal.overflow_add-result
-overflow_add-result c = omega (arith, row_within c.args.x c.requires.holds c.requires.within)
-
-pub offset_bounds-t-first : goal.offset_bounds-t-first
-offset_bounds-t-first c = omega (arith, row_within c.args.x c.requires.holds c.requires.within)
-
 pub slice_bounds-result-end : goal.slice_bounds-result-end
 slice_bounds-result-end c = omega (arith, row_within c.args.x c.requires.holds c.requires.within)
 
 pub returns : goal.returns
 returns c = record {
   long = length-between c.args.t.now _ _ (omega (arith, row_within c.args.x c.requires.holds c.requires.within)) ∙ omega arith;
-  cells = λ k h. row_cell c.args.t.now c.args.x k c.requires.holds c.requires.within c.place-first.ensures h;
+  cells = λ k h. row_cell c.args.t.now c.args.x k c.requires.holds c.requires.within c.place-first.ensures.is h;
 }

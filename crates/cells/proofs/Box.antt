@@ -116,19 +116,23 @@ any_in_rows x y test = listed (λ w. any_in_row x w test) 1 y ∙ any_below_same
         ap₂ ◌||◌ (ap f (omega arith)) (listed f (k + 1) n ∙ any_below_same (λ j. f (k + 1 + j)) (λ j. f (k + suc j)) n (λ j h. ap f (omega arith)))
         ∙ sym (first (λ j. f (k + j)) n)
 
-pub count_in_row_more : (i w : ℕ) (test : ℕ → ℕ → Bool) → count_in_row (i + 1) w test ≡ count_in_row i w test + counted (test (i + 1) w)
+pub count_in_row_more : (i : ℕ) {u : ℕ} (w : ℕ) (test : ℕ → ℕ → Bool) → u ≡ i + 1 → count_in_row u w test ≡ count_in_row i w test + counted (test u w)
 unfolding count_in_row
-count_in_row_more i w test =
-    sum_below_more (λ k. counted (test (suc k) w)) i ∙ ap (λ u. sum_below (λ k. counted (test (suc k) w)) i + counted (test u w)) (sym (add-one i))
+count_in_row_more i {u} w test next =
+    let at : suc i ≡ u = omega arith in
+    ap (sum_below (λ k. counted (test (suc k) w))) next
+    ∙ (sum_below_more (λ k. counted (test (suc k) w)) i ∙ ap (λ m. sum_below (λ k. counted (test (suc k) w)) i + counted (test m w)) at)
 
 pub count_in_box_none : (x : ℕ) (test : ℕ → ℕ → Bool) → count_in_box x 0 test ≡ 0
 unfolding count_in_box
 count_in_box_none x test = sum_below_none _
 
-pub count_in_box_more : (x j : ℕ) (test : ℕ → ℕ → Bool) → count_in_box x (j + 1) test ≡ count_in_box x j test + count_in_row x (j + 1) test
+pub count_in_box_more : (x j : ℕ) {w : ℕ} (test : ℕ → ℕ → Bool) → w ≡ j + 1 → count_in_box x w test ≡ count_in_box x j test + count_in_row x w test
 unfolding count_in_box
-count_in_box_more x j test =
-    sum_below_more (λ k. count_in_row x (suc k) test) j ∙ ap (λ w. sum_below (λ k. count_in_row x (suc k) test) j + count_in_row x w test) (sym (add-one j))
+count_in_box_more x j {w} test next =
+    let at : suc j ≡ w = omega arith in
+    ap (sum_below (λ k. count_in_row x (suc k) test)) next
+    ∙ (sum_below_more (λ k. count_in_row x (suc k) test) j ∙ ap (λ n. sum_below (λ k. count_in_row x (suc k) test) j + count_in_row x n test) at)
 
 -- A test that is the same in every cell of a box counts all of its cells, or none.
 count_in_box_each : (x y : ℕ) (test : ℕ → ℕ → Bool) (b : Bool) → ((u w : ℕ) → Inside u w x y → test u w ≡ b) → count_in_box x y test ≡ y * (x * counted b)

@@ -50,35 +50,38 @@ block_up p x q y u w h = joined (between p x u) (between q y w) (between y (y + 
     joined true c d = refl
     joined false c d = refl
 
--- Row y from column p on, overwritten with empty cells; `first` is the place of its cell (p, y).
-module _ {a p y first : ℕ} (t : List ℕ) (room : a * y ≤ length t) (at : first ≡ place a p y) (column : Inside p y a y) where
-  rest : List ℕ
-  rest = put_mid first (a * y - first) t (replicate (a * y - first) empty)
+-- Row y from column p on, overwritten with empty cells; `first` is the place of its cell (p, y), and n cells are left.
+module _ {a p y first : ℕ} (n : ℕ) (t : List ℕ) (room : a * y ≤ length t) (at : first ≡ place a p y) (column : Inside p y a y) (end : first + n ≡ a * y) where
+  now : List ℕ
+  now = put_mid first n t (replicate n empty)
 
-  before : (k : ℕ) → k < first → get_or rest k empty ≡ get_or t k empty
-  unfolding rest
+  before : (k : ℕ) → k < first → get_or now k empty ≡ get_or t k empty
+  unfolding now
   before k h = search (rules, places)
 
-  within : (k : ℕ) → first ≤ k → k < a * y → get_or rest k empty ≡ empty
-  unfolding rest
+  within : (k : ℕ) → first ≤ k → k < a * y → get_or now k empty ≡ empty
+  unfolding now
   within k h l = search (rules, places)
 
-  after : (k : ℕ) → a * y ≤ k → get_or rest k empty ≡ get_or t k empty
-  unfolding rest
+  after : (k : ℕ) → a * y ≤ k → get_or now k empty ≡ get_or t k empty
+  unfolding now
   after k h = search (rules, places)
 
-  long : length rest ≡ length t
-  unfolding rest
-  long = search (rules, places)
+  now-length : length now ≡ length t
+  unfolding now
+  now-length = search (rules, places)
 
   kept : (u w : ℕ) → Inside u w a y → (Block p (a + 1) y (y + 1) u w → ⊥) → place a u w < first
   unfolding place
-  kept u w i other = ⊎_elim
-      (λ h. let same : (w - 1) * a ≡ (y - 1) * a = ap (λ (n : ℕ). (n - 1) * a) (omega arith) in omega (arith, ⊎_elim (λ m. absurd (other (omega arith))) (λ m. m) (le_or_lt p u)))
+  kept u w i other =
+      ⊎_elim
+      (λ h.
+      let same : (w - 1) * a ≡ (y - 1) * a = ap (λ (n : ℕ). (n - 1) * a) (omega arith) in
+      omega (arith, ⊎_elim (λ m. absurd (other (omega arith))) (λ m. m) (le_or_lt p u)))
       (λ h. let low : Inside u w a w = omega arith in omega (arith, place_above w column h, place_below low))
       (le_or_lt y w)
 
-  cells : (u w : ℕ) → Inside u w a y → (b : Bool) → Says b (Block p (a + 1) y (y + 1) u w) → cell_of a rest u w ≡ cond b empty (cell_of a t u w)
+  cells : (u w : ℕ) → Inside u w a y → (b : Bool) → Says b (Block p (a + 1) y (y + 1) u w) → cell_of a now u w ≡ cond b empty (cell_of a t u w)
   unfolding cell_of place
   cells u w i true s =
       let b = s.means refl in
@@ -86,11 +89,11 @@ module _ {a p y first : ℕ} (t : List ℕ) (room : a * y ≤ length t) (at : fi
       within (place a u w) (omega arith) (place_below i)
   cells u w i false s = before (place a u w) (kept u w i (says_false s refl))
 
-  pub row_emptied : {part : List ℕ} → part ≡ replicate (a * y - first) empty → put_mid first (a * y - first) t part ≡ emptied_where a y (row_from a p y) t
-  unfolding rest
+  pub row_emptied : {part : List ℕ} → part ≡ replicate n empty → put_mid first n t part ≡ emptied_where a y (row_from a p y) t
+  unfolding now
   row_emptied e =
-      ap (put_mid first (a * y - first) t) e
-      ∙ is_emptied_where a y (row_from a p y) t rest long (λ u w i. cells u w i _ (block_says p (a + 1) y (y + 1) u w)) after
+      ap (put_mid first n t) e
+      ∙ is_emptied_where a y (row_from a p y) t now now-length (λ u w i. cells u w i _ (block_says p (a + 1) y (y + 1) u w)) after
 
 -- No row has a cell past its end.
 pub row_past : {a p : ℕ} (y : ℕ) (t : List ℕ) → a < p → t ≡ emptied_where a y (row_from a p y) t

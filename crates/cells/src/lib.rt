@@ -70,7 +70,8 @@ fn empty_row(t: &mut [u32], a: usize, p: usize, y: usize)
     ensures { t.new ≡ emptied_where a y (row_from a p y) t.old }
 {
     if p <= a {
-        t[place(a, p, y)..a * y].fill(EMPTY);
+        let first = place(a, p, y);
+        t[first..first + (a + 1 - p)].fill(EMPTY);
     }
 }
 

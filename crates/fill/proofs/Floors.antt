@@ -112,6 +112,10 @@ module _ (width height value : ℕ → ℕ) (from x w : ℕ) where
   pieces_more k {f} {f'} h d e g r =
       record { at = λ u a b. fitting_more width height value u w k (h.at u a b) (λ i. value_in (d i) (e i) (g i) u w) (raised_in from x _ f f' r u a b) }
 
+  pub pieces_end : {k n : ℕ} {f : List ℕ} → Columns from x (λ u. fitting_value width height value k u w) f → k ≡ n
+      → Columns from x (λ u. fitting_value width height value n u w) f
+  pieces_end {k} {n} {f} h e = subst (λ (m : ℕ). Columns from x (λ u. fitting_value width height value m u w) f) e h
+
 -- Line by line: column u of a floor f once the lines at 1, …, d have been tried.
 unfoldable pub lined : (ℕ → Bool) → (ℕ → ℕ → ℕ) → ℕ → List ℕ → ℕ → ℕ → ℕ
 lined in_q cell w f d u = max (get_or f u 0) (lines_up_to in_q (λ k. cell u k) w d)

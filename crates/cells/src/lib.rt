@@ -1,4 +1,5 @@
 // The row of cells of a sheet. Where a cell lies in the row is known here alone; everyone above says (x, y).
+// The row t and its width a stay two parameters: a struct of them would be two structs, since reading lends the row as & and storing as &mut.
 #![tactic(auto)]
 
 ghost use Rattle.std.specs.Prelude.{ℕ, ◌+◌, ◌*◌, Bool, ◌≤◌, ◌<◌, ◌≡◌, length, set, slice_index};

@@ -5,13 +5,14 @@ use mathlib.Core.List.{List}
 use mathlib.Core.Path.{◌≡◌, refl, sym, ap, ap₂, ◌∙◌, subst}
 use native.Mathlib.Omega.{arith}
 use native.Mathlib.Decide.{ℕ_discrete}
-use native.Mathlib.Numerals.{add-one}
 use lib.Dec.{leb, ltb}
-use lib.ListN.{length, get_or, set, replicate}
+use lib.ListN.{length, get_or, set, replicate, get_or-eq_default}
 use lib.Seq.{get_or-set_same, get_or-set_other}
+use mathlib.Core.Logic.{⊎_elim}
+use Rattle.std.proofs.lemmas.List.{get_or-replicate, length-replicate}
+use Rattle.laws.proofs.Order.{le_or_lt}
 use Rattle.laws.specs.Inner.{Says}
 use Rattle.laws.proofs.Says.{says_and, says_le, says_lt, says_iff, says_same, says_no, says_false}
-use Rattle.laws.proofs.Below.{best_below_more}
 use Rattle.cutting.specs.Piece.{Fits, Inside}
 use Rattle.cutting.specs.Dissection.{rest}
 use Rattle.cells.specs.Cells.{cell_of}
@@ -19,7 +20,7 @@ use Rattle.cells.specs.Inner.{Holds, fits}
 use Rattle.cells.proofs.Emptied.{fits_says}
 use Rattle.cells.proofs.Places.{holds_lower}
 use Rattle.fill.specs.Inner.{fitting_value, line_at, line_value, value_in, Raises, Columns, LinesUp, floor_by}
-use Rattle.fill.proofs.Steps.{lines_up_to, lines_none, lines_end, fitting_none, fitting_more}
+use Rattle.fill.proofs.Steps.{lines_up_to, lines_none, lines_more, lines_end, fitting_none, fitting_more}
 
 -- The columns from..u − 1 have been raised to g.
 pub record RaisedTo (from u : ℕ) (g : ℕ → ℕ) (f f' : List ℕ) : Type 0 where
@@ -83,7 +84,7 @@ module _ (from x w p q v : ℕ) (f : List ℕ) where
   pub piece_low : w < q → Raises from x (λ u. value_in p q v u w) f f
   piece_low h = record { at = λ u. spared u (λ r m. omega (arith, m.high)) }
 
-  pub piece_high : {f' : List ℕ} {start value : ℕ} → start ≡ max p from → value ≡ v → q ≤ w → Raises start x (λ u. value) f f'
+  pub piece_high : {f' : List ℕ} {start value : ℕ} → start ≡ max from p → value ≡ v → q ≤ w → Raises start x (λ u. value) f f'
       → Raises from x (λ u. value_in p q v u w) f f'
   unfolding range
   piece_high {f'} {start} {value} e g h r =
@@ -114,6 +115,10 @@ module _ (width height value : ℕ → ℕ) (from x w : ℕ) where
   pieces_more k {f} {f'} h d e g r =
       record { at = λ u a b. fitting_more width height value u w k (h.at u a b) (λ i. value_in (d i) (e i) (g i) u w) (raised_in from x _ f f' r u a b) }
 
+  pub pieces_end : {k n : ℕ} {f : List ℕ} → Columns from x (λ u. fitting_value width height value k u w) f → k ≡ n
+      → Columns from x (λ u. fitting_value width height value n u w) f
+  pieces_end {k} {n} {f} h e = subst (λ (m : ℕ). Columns from x (λ u. fitting_value width height value m u w) f) e h
+
 -- Line by line: column u of a floor f once the lines at 1, …, d have been tried.
 unfoldable pub lined : (ℕ → Bool) → (ℕ → ℕ → ℕ) → ℕ → List ℕ → ℕ → ℕ → ℕ
 lined in_q cell w f d u = max (get_or f u 0) (lines_up_to in_q (λ k. cell u k) w d)
@@ -123,22 +128,21 @@ module _ (in_q : ℕ → Bool) (cell : ℕ → ℕ → ℕ) (from x w : ℕ) (f 
   unfolding lined
   lined_none = record { at = λ u a b. omega (arith, lines_none in_q (λ k. cell u k) w) }
 
-  step : (d u : ℕ) {b s : Bool} → b ≡ in_q (d + 1) → b ≡ s
-      → lines_up_to in_q (λ k. cell u k) w (d + 1) ≡ max (lines_up_to in_q (λ k. cell u k) w d) (cond s (cell u (d + 1) + cell u (rest w (d + 1))) 0)
-  unfolding lines_up_to line_at
-  step d u e t =
-      best_below_more (λ i. line_at in_q (λ k. cell u k) w (suc i)) d
-      ∙ ap (max _) (ap (line_at in_q (λ k. cell u k) w) (sym (add-one d)) ∙ ap (λ (c : Bool). cond c (cell u (d + 1) + cell u (rest w (d + 1))) 0) (sym e ∙ t))
+  step : (k u : ℕ) {d : ℕ} {b s : Bool} → d ≡ k + 1 → b ≡ in_q d → b ≡ s
+      → lines_up_to in_q (λ k. cell u k) w d ≡ max (lines_up_to in_q (λ k. cell u k) w k) (cond s (cell u d + cell u (rest w d)) 0)
+  unfolding line_at
+  step k u {d} next e t = sym (lines_more in_q (λ k. cell u k) w k next refl refl refl)
+      ∙ ap (max _) (ap (λ (c : Bool). cond c (cell u d + cell u (rest w d)) 0) (sym e ∙ t))
 
-  pub lined_marked : (d : ℕ) {f' f'' : List ℕ} {b : Bool} → Columns from x (lined in_q cell w f d) f' → b ≡ in_q (d + 1) → b ≡ true
-      → Raises from x (λ u. cell u (d + 1) + cell u (rest w (d + 1))) f' f'' → Columns from x (lined in_q cell w f (d + 1)) f''
+  pub lined_marked : (k : ℕ) {d : ℕ} {f' f'' : List ℕ} {b : Bool} → d ≡ k + 1 → Columns from x (lined in_q cell w f k) f' → b ≡ in_q d → b ≡ true
+      → Raises from x (λ u. cell u d + cell u (rest w d)) f' f'' → Columns from x (lined in_q cell w f d) f''
   unfolding lined
-  lined_marked d {f'} {f''} h e t r = record { at = λ u a b. omega (arith, raised_in from x _ f' f'' r u a b, h.at u a b, step d u e t) }
+  lined_marked k {d} {f'} {f''} next h e t r = record { at = λ u a b. omega (arith, raised_in from x _ f' f'' r u a b, h.at u a b, step k u next e t) }
 
-  pub lined_unmarked : (d : ℕ) {f' : List ℕ} {b : Bool} → Columns from x (lined in_q cell w f d) f' → b ≡ in_q (d + 1) → b ≡ false
-      → Columns from x (lined in_q cell w f (d + 1)) f'
+  pub lined_unmarked : (k : ℕ) {d : ℕ} {f' : List ℕ} {b : Bool} → d ≡ k + 1 → Columns from x (lined in_q cell w f k) f' → b ≡ in_q d → b ≡ false
+      → Columns from x (lined in_q cell w f d) f'
   unfolding lined
-  lined_unmarked d {f'} h e t = record { at = λ u a b. omega (arith, h.at u a b, step d u e t) }
+  lined_unmarked k {d} {f'} next h e t = record { at = λ u a b. omega (arith, h.at u a b, step k u next e t) }
 
   pub lined_end : (d : ℕ) {f' : List ℕ} → Columns from x (lined in_q cell w f d) f' → d ≡ w / 2
       → Columns from x (λ u. max (get_or f u 0) (line_value in_q (λ k. cell u k) w)) f'
@@ -164,9 +168,4 @@ column_fits a t from x w u d s h k p l e f =
 
 -- A floor of zeros, before anything is laid.
 pub zeros : (from x n : ℕ) → Columns from x (λ u. 0) (replicate n 0)
-zeros from x n = record { at = λ u a b. nought n u }
-  where
-    nought : (n u : ℕ) → ◌≡◌ {A = ℕ} (get_or (replicate n 0) u 0) 0
-    nought zero u = refl
-    nought (suc n) zero = refl
-    nought (suc n) (suc u) = nought n u
+zeros from x n = record { at = λ u a b. ⊎_elim (λ h. get_or-eq_default (replicate n 0) 0 (omega (arith, length-replicate {A = ℕ}))) (λ h. get_or-replicate n u 0 0 h) (le_or_lt n u) }

@@ -6,7 +6,7 @@ pub empty_where_fits-requires : goal.empty_where_fits-requires
 empty_where_fits-requires c =
     let both = size_holds _ c.args.size _ c.requires.usable c.requires.le_width
     c.wide.ensures.value c.wide-2.ensures.value c.wide-3.ensures.value c.wide-4.ensures.value in
-    record { holds = both.0; le_p = both.1 }
+    record { holds = both.0; least = both.1 }
 
 pub returns : goal.returns
 returns c =

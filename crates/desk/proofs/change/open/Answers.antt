@@ -18,7 +18,7 @@ overflow_cast-height c = omega (arith, open_granted _ _ _ c.open_refused-refused
 pub empty_where_fits-requires : goal.empty_where_fits-requires
 empty_where_fits-requires c = record {
   holds = open_granted _ _ _ c.open_refused-refused.ensures c.if-refused-ne0.false;
-  le_p = omega arith;
+  least = omega arith;
 }
 
 pub returns : goal.returns

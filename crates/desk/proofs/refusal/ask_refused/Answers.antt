@@ -22,7 +22,7 @@ returns-then-not-inside c =
 pub has_exceeding-requires : goal.has_exceeding-requires
 has_exceeding-requires c =
     let both = box_holds _ _ _ _ c.job_refused-first.ensures c.if-first-ne0.false c.inside.ensures c.if-not-inside.false c.wide.ensures.value in
-    record { holds = both.0; x_le_a = both.1 }
+    record { holds = both.0; within = both.1 }
 
 pub returns-then-has_exceeding : goal.returns-then-has_exceeding
 unfolding ask_refused ask_refusals ask_tests job_refused job_refusals job_tests every_number

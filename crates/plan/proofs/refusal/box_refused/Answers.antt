@@ -24,7 +24,7 @@ returns-then-not-inside c =
 pub has_empty-requires : goal.has_empty-requires
 has_empty-requires c =
     let both = box_holds _ _ _ _ c.job_refused-first.ensures c.if-first-ne0.false c.inside.ensures c.if-not-inside.false c.wide.ensures.value in
-    record { holds = both.0; x_le_a = both.1 }
+    record { holds = both.0; within = both.1 }
 
 pub returns-then-has_empty : goal.returns-then-has_empty
 unfolding box_refused plan_refusals plan_tests job_refused job_refusals job_tests every_number
@@ -38,7 +38,7 @@ returns-then-has_empty c =
 pub has_exceeding-requires : goal.has_exceeding-requires
 has_exceeding-requires c =
     let both = box_holds _ _ _ _ c.job_refused-first.ensures c.if-first-ne0.false c.inside.ensures c.if-not-inside.false c.wide-2.ensures.value in
-    record { holds = both.0; x_le_a = both.1 }
+    record { holds = both.0; within = both.1 }
 
 pub returns-then-has_exceeding : goal.returns-then-has_exceeding
 unfolding box_refused plan_refusals plan_tests job_refused job_refusals job_tests every_number

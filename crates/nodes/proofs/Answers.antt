@@ -11,7 +11,7 @@ use Rattle.cutting.specs.Dissection.{rest, crossed, part_width, part_height}
 use Rattle.cutting.proofs.Bound.{earning_bound}
 use Rattle.cutting.proofs.Tree.{dissection_of, areas, line_far}
 use Rattle.nodes.specs.Reads.{Frame, frame, Tally, tally_of}
-use Rattle.nodes.specs.Inner.{Part, tally, tally_both, near_part, far_part, with_first, then_read, both_parts, part_by, node_at, part_at, reading, ReadsTo, RoomFor, MayRead, MayReadLine}
+use Rattle.nodes.specs.Inner.{Part, tally, tally_both, near_part, far_part, with_first, then_read, both_parts, part_by, node_at, part_at, no_leaves, reading, read_of, ReadsTo, RoomFor, MayRead, MayReadLine}
 use Rattle.nodes.specs.declared.Node.{Node}
 use Rattle.nodes.specs.declared.Reading.{Reading}
 use Rattle.nodes.proofs.Own.{part_by_lem}
@@ -111,3 +111,21 @@ module _ (pieces : List Piece) (s : List ℕ) where
       far_answers {after} {r} second =
           subst (λ (p : Part). ReadsTo before.leaves after r (both p)) (sym done.read)
           (both_answer (part (far_part whole tall c middle.at)) done.leaves done.sums (part_answers middle.at far second))
+
+-- A part that was read from its first node on, with no leaf before it.
+no_leaves_first : (t : Tally) → tally_both no_leaves t ≡ t
+no_leaves_first t =
+    let value : 0 + t.value ≡ t.value = omega arith in
+    let pieces : 0 + t.pieces ≡ t.pieces = omega arith in
+    let scrap : 0 + t.scrap ≡ t.scrap = omega arith in
+    λ i. tally (value i) (pieces i) (scrap i)
+
+pub was_first : (p : Part) {before : Tally} {after : Reading} → before ≡ no_leaves → ReadsTo before after (Some tt) p → Some after ≡ read_of p
+unfolding read_of
+was_first (Part.Read next t) e (ReadsTo.read g h) = ap Some (h ∙ ap (reading next) (ap (λ (b : Tally). tally_both b t) e ∙ no_leaves_first t))
+was_first Part.Broken e (ReadsTo.broken g) = let z : ◌≡◌ {A = Option (Unit {0})} (Some tt) None = g in cc
+
+pub none_first : (p : Part) {before : Tally} {after : Reading} → ReadsTo before after None p → None ≡ read_of p
+unfolding read_of
+none_first (Part.Read next t) (ReadsTo.read g h) = let z : ◌≡◌ {A = Option (Unit {0})} None (Some tt) = g in cc
+none_first Part.Broken (ReadsTo.broken g) = refl

@@ -130,6 +130,11 @@ reading at t = record { at = at; leaves = t }
 abbrev pub behind_leaf : Reading → Tally → Reading
 behind_leaf r t = reading (r.at + node_length) (tally_both r.leaves t)
 
+-- A part that was read, with no leaf before it.
+unfoldable pub read_of : Part → Option Reading
+read_of (Part.Read next t) = Some (reading next t)
+read_of Part.Broken = None
+
 -- What the readers answer for a part: they come to its end, and its leaves are added; or none, and nothing is said of what was read.
 pub data ReadsTo (before : Tally) (after : Reading) (r : Option (Unit {0})) : Part → Type 0 where
   read : {next : ℕ} {t : Tally} → r ≡ Some tt → after ≡ reading next (tally_both before t) → ReadsTo before after r (Part.Read next t)

@@ -7,7 +7,7 @@ ghost use Rattle.cutting.specs.Piece.{piece_at};
 ghost use Rattle.board.specs.Inner.{entries, count_on, pieces_on};
 ghost use Rattle.fields.specs.Format.{node_length};
 ghost use Rattle.nodes.specs.Reads.{frame};
-ghost use Rattle.nodes.specs.Inner.{node_at, piece_tally, part_at, both_at, tally_both, no_leaves, reading, behind_leaf, ReadsTo, RoomFor, MayReadPiece, MayRead, MayReadLine};
+ghost use Rattle.nodes.specs.Inner.{node_at, piece_tally, part_at, both_at, tally_both, no_leaves, reading, read_of, behind_leaf, ReadsTo, RoomFor, MayReadPiece, MayRead, MayReadLine};
 
 use board::line::{crossed, part_height, part_width, rest};
 use board::{Board, piece_value};
@@ -66,16 +66,6 @@ impl Tally {
 }
 
 impl Reading {
-    // From a place on, with no leaf before it.
-    pub fn from(at: usize) -> Reading
-        ensures { result ≡ reading at no_leaves }
-    {
-        Reading {
-            at,
-            leaves: Tally::default(),
-        }
-    }
-
     // Goes on behind a leaf.
     fn add_leaf(&mut self, leaf: Tally)
         requires place { self.old.at + node_length < 2 ^ 64 }
@@ -120,7 +110,20 @@ impl Nodes<'_> {
         }
     }
 
-    // Reads a part: a leaf by itself, a line with its two parts; or none, where a rule is broken.
+    // Reads a part from its first node on: where its nodes end, and its leaves; or none, where a rule is broken.
+    pub fn read(&self, at: usize, width: usize, height: usize) -> Option<Reading>
+        requires { MayRead (pieces_on self.now.board.now) width height no_leaves }
+        ensures { result ≡ read_of (part_at (pieces_on self.now.board.now) self.now.bytes.now (frame at width height)) }
+    {
+        let mut reading = Reading {
+            at,
+            leaves: Tally::default(),
+        };
+        self.read_part(&mut reading, width, height)?;
+        Some(reading)
+    }
+
+    // Reads on over a part: a leaf by itself, a line with its two parts; or none, where a rule is broken.
     #[cycle(read_line_read_part)]
     pub fn read_part(&self, reading: &mut Reading, width: usize, height: usize) -> Option<()>
         requires { MayRead (pieces_on self.now.board.now) width height reading.old.leaves }

@@ -5,12 +5,14 @@ use mathlib.Core.Path.{◌≡◌, refl, sym, ap, subst, ◌∙◌}
 use mathlib.Core.List.{List}
 use native.Mathlib.Omega.{arith}
 use Rattle.std.specs.Prelude.{Option, Some, None}
+use Rattle.std.proofs.lemmas.Option.{none-some, same_Some}
 use Rattle.cutting.specs.Limits.{value_max}
 use Rattle.cutting.specs.Piece.{Piece, Lays, InRange}
 use Rattle.cutting.specs.Dissection.{rest, crossed, part_width, part_height}
 use Rattle.cutting.proofs.Bound.{earning_bound}
 use Rattle.cutting.proofs.Tree.{dissection_of, areas, line_far}
-use Rattle.nodes.specs.Reads.{Frame, frame, Tally, tally_of}
+use Rattle.nodes.specs.Reads.{Frame, frame, tally_of}
+use Rattle.nodes.specs.declared.Tally.{Tally}
 use Rattle.nodes.specs.Inner.{Part, tally, tally_both, near_part, far_part, with_first, then_read, both_parts, part_by, node_at, part_at, no_leaves, reading, read_of, ReadsTo, RoomFor, MayRead, MayReadLine}
 use Rattle.nodes.specs.declared.Node.{Node}
 use Rattle.nodes.specs.declared.Reading.{Reading}
@@ -35,10 +37,7 @@ pub record WasRead (p : Part) (before : Tally) (after : Reading) : Type 0 where
 pub was_read : (p : Part) {before : Tally} {after : Reading} → ReadsTo before after (Some tt) p → WasRead p before after
 was_read (Part.Read next t) (ReadsTo.read e h) =
     record { leaves = t; read = ap (λ (r : Reading). Part.Read r.at t) (sym h); sums = ap (λ (r : Reading). r.leaves) h }
-was_read Part.Broken (ReadsTo.broken e) = absurd (none_some e)
-  where
-    none_some : ◌≡◌ {A = Option (Unit {0})} (Some tt) None → ⊥
-    none_some e = cc
+was_read Part.Broken (ReadsTo.broken e) = absurd (none-some tt (sym e))
 
 -- The second part of a line, behind the first.
 both_answer : (q : Part) {before middle : Tally} {after : Reading} {r : Option (Unit {0})} (a : Tally) → middle ≡ tally_both before a
@@ -87,7 +86,7 @@ module _ (pieces : List Piece) (s : List ℕ) where
     near_broken {after} first = go (part nearer) (part_answers before.at near first)
       where
         go : (p : Part) → ReadsTo before.leaves middle None p → ReadsTo before.leaves after None (both p)
-        go (Part.Read next t) (ReadsTo.read g h) = let z : ◌≡◌ {A = Option (Unit {0})} None (Some tt) = g in cc
+        go (Part.Read next t) (ReadsTo.read g h) = absurd (none-some tt g)
         go Part.Broken h = ReadsTo.broken refl
 
     module _ (first : ReadsTo before.leaves middle (Some tt) (part (frame before.at u v))) {w h : ℕ} (far : PartIs x y tall (rest (crossed tall x y) c) w h) where
@@ -123,9 +122,20 @@ no_leaves_first t =
 pub was_first : (p : Part) {before : Tally} {after : Reading} → before ≡ no_leaves → ReadsTo before after (Some tt) p → Some after ≡ read_of p
 unfolding read_of
 was_first (Part.Read next t) e (ReadsTo.read g h) = ap Some (h ∙ ap (reading next) (ap (λ (b : Tally). tally_both b t) e ∙ no_leaves_first t))
-was_first Part.Broken e (ReadsTo.broken g) = let z : ◌≡◌ {A = Option (Unit {0})} (Some tt) None = g in cc
+was_first Part.Broken e (ReadsTo.broken g) = absurd (none-some tt (sym g))
 
 pub none_first : (p : Part) {before : Tally} {after : Reading} → ReadsTo before after None p → None ≡ read_of p
 unfolding read_of
-none_first (Part.Read next t) (ReadsTo.read g h) = let z : ◌≡◌ {A = Option (Unit {0})} None (Some tt) = g in cc
+none_first (Part.Read next t) (ReadsTo.read g h) = absurd (none-some tt g)
 none_first Part.Broken (ReadsTo.broken g) = refl
+
+-- What an answer tells of the part.
+pub read_back : (p : Part) {r : Reading} → Some r ≡ read_of p → Part.Read r.at r.leaves ≡ p
+unfolding read_of
+read_back (Part.Read next t) e = ap (λ (r : Reading). Part.Read r.at r.leaves) (same_Some _ _ e)
+read_back Part.Broken e = absurd (none-some _ (sym e))
+
+pub broken_back : (p : Part) → None ≡ read_of p → Part.Broken ≡ p
+unfolding read_of
+broken_back (Part.Read next t) e = absurd (none-some _ e)
+broken_back Part.Broken e = refl

@@ -16,7 +16,8 @@ use Rattle.cutting.specs.Tree.{Tree, Valid, earning, piece_area_of, scrap_area_o
 use Rattle.fields.specs.Number.{Bytes}
 use Rattle.fields.specs.Format.{letter_p, letter_s, node_length}
 use Rattle.nodes.specs.Encoding.{letter_of, node, encode}
-use Rattle.nodes.specs.Reads.{Frame, frame, Tally, Found, tally_of, ReadAs}
+use Rattle.nodes.specs.Reads.{Frame, frame, Found, tally_of, ReadAs}
+use Rattle.nodes.specs.declared.Tally.{Tally}
 use Rattle.nodes.specs.Inner.{Written, Part, tally_both, piece_tally, scrap_tally, near_part, far_part, behind_node, with_first, then_read, both_parts, part_by, letter_node, node_at, part_at}
 use Rattle.nodes.specs.declared.Node.{Node}
 use Rattle.nodes.proofs.Rules.{is_inside_says, is_piece_says, on_line, on_P, on_S, node_whole, Tells, node_tells}

@@ -9,7 +9,8 @@ use Rattle.laws.proofs.Depth.{deep_own}
 use Rattle.cutting.specs.Piece.{Piece}
 use Rattle.cutting.specs.Dissection.{rest, crossed}
 use Rattle.cutting.proofs.Tree.{part_less}
-use Rattle.nodes.specs.Reads.{Frame, Tally}
+use Rattle.nodes.specs.Reads.{Frame}
+use Rattle.nodes.specs.declared.Tally.{Tally}
 use Rattle.nodes.specs.Inner.{Part, tally_both, near_part, far_part, behind_node, with_first, then_read, both_parts, part_by, around, node_at, part_at}
 use Rattle.nodes.specs.declared.Node.{Node}
 use Rattle.nodes.proofs.Rules.{Tells, node_tells}

@@ -9,7 +9,7 @@ use Rattle.cutting.specs.Limits.{value_max}
 use Rattle.cutting.specs.Piece.{Piece, piece_at, Numbered}
 use Rattle.cutting.specs.Dissection.{rest, crossed, part_width, part_height}
 use Rattle.cutting.proofs.Tree.{parts_area, line_far, least}
-use Rattle.nodes.specs.Reads.{Tally}
+use Rattle.nodes.specs.declared.Tally.{Tally}
 use Rattle.nodes.specs.Inner.{tally, piece_tally, RoomFor, MayRead, MayReadLine}
 
 -- What stays within a part's most stays within its room.

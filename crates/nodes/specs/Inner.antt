@@ -8,7 +8,8 @@ use Rattle.cutting.specs.Tree.{Tree}
 use Rattle.board.specs.Inner.{entries}
 use Rattle.fields.specs.Number.{number2_of}
 use Rattle.fields.specs.Format.{letter_v, letter_h, letter_p, letter_s, node_length}
-use Rattle.nodes.specs.Reads.{Frame, frame, Tally}
+use Rattle.nodes.specs.Reads.{Frame, frame}
+use Rattle.nodes.specs.declared.Tally.{Tally}
 use Rattle.nodes.specs.declared.Node.{Node}
 use Rattle.nodes.specs.declared.Reading.{Reading}
 

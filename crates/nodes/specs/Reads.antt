@@ -3,7 +3,7 @@ use Rattle.std.specs.Prelude.{ℕ, ◌+◌, ◌≡◌, List, ◌++◌, length, d
 use Rattle.cutting.specs.Piece.{Piece}
 use Rattle.cutting.specs.Tree.{Tree, Valid, earning, piece_area_of, scrap_area_of}
 use Rattle.nodes.specs.Encoding.{encode}
-pub use Rattle.nodes.specs.declared.Tally.{Tally}
+use Rattle.nodes.specs.declared.Tally.{Tally}
 
 -- A part to be read: where its nodes start, and its sides.
 pub record Frame : Type 0 where

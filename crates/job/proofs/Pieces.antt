@@ -11,7 +11,7 @@ use Rattle.cutting.specs.Piece.{Piece, no_piece}
 use Rattle.cutting.specs.Limits.{pieces_max}
 use Rattle.job.specs.declared.Piece.{Piece as Record}
 use Rattle.job.specs.declared.Job.{Job}
-use Rattle.job.specs.Job.{piece_of, record_of, no_record, pieces_of, job_of, Tidy}
+use Rattle.job.specs.Job.{piece_of, record_of, no_record, pieces_of, job_of, zero_job, Tidy}
 use Rattle.job.specs.Inner.{records_of}
 
 pub pieces-length : (job : Job) → length (pieces_of job) ≡ job.count
@@ -78,6 +78,16 @@ is_no_record h = λ i. record { width = h.0 i; height = h.1.0 i; value = h.1.1 i
 pub are_zeros : {records : List Record} → AllOfLen (λ (r : Record). (r.width ≡ 0) × ((r.height ≡ 0) × (r.value ≡ 0))) records pieces_max → records ≡ records_of []
 are_zeros {records} h =
     is_by_index (λ k. no_record) pieces_max records no_record h.long (λ k l. is_no_record (h.at k no_record l))
+
+-- The default job is the job of zeros.
+pub is_zero_job : {job : Job}
+    → (job.width ≡ 0)
+    × ((job.height ≡ 0)
+    × ((job.count ≡ 0) × AllOfLen (λ (r : Record). (r.width ≡ 0) × ((r.height ≡ 0) × (r.value ≡ 0))) job.pieces pieces_max))
+    → job ≡ zero_job
+unfolding zero_job
+is_zero_job {job} h =
+    is_job_of job.width job.height job.count [] h.1.1.0 (are_zeros h.1.1.1) ∙ ap₂ (λ (a b : ℕ). job_of a b []) h.0 h.1.0
 
 -- A job whose records past n were filled with zeros.
 pub tidied_done : (job : Job) {n : ℕ} {zero : Record} {filled : List Record} → length job.pieces ≡ pieces_max → job.count ≤ pieces_max → n ≡ job.count

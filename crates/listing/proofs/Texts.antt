@@ -40,7 +40,8 @@ module _ (pieces : List Piece) (s : List ℕ) where
 
   -- The near part of a line, by the code's numbers.
   one_listed : (q : Section) (tall : Bool) {near : Section} {c side : ℕ} {u v : Text} {first : Option ℕ} → side ≡ c
-      → near ≡ below_of q tall side (q.at + node_length) → ListsThere pieces s near u first v → {a : Tree} {there : ℕ} → Stands pieces s (below_of q tall c (q.at + node_length)) a there
+      → near ≡ below_of q tall side (q.at + node_length) → ListsThere pieces s near u first v → {a : Tree} {there : ℕ}
+      → Stands pieces s (below_of q tall c (q.at + node_length)) a there
       → PrintedAs pieces (below_of q tall c (q.at + node_length)) a there u first v
   one_listed q tall {u = u} {v = v} {first = first} i near_is lists {a} {there} x =
       subst (λ (f : Section). ListsThere pieces s f u first v) (near_is ∙ ap (λ (n : ℕ). below_of q tall n (q.at + node_length)) i) lists a there x

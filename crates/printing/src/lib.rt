@@ -25,11 +25,10 @@ impl<'a> Text<'a> {
     pub fn put_byte(&mut self, byte: u8)
         ensures { Writes self.old (byte ∷ []) self.new }
     {
-        if self.at >= self.row.len() {
-            return;
+        if self.at < self.row.len() {
+            self.row[self.at] = byte;
+            self.at += 1;
         }
-        self.row[self.at] = byte;
-        self.at += 1;
     }
 
     // Writes a word.
@@ -49,7 +48,7 @@ impl<'a> Text<'a> {
             return self.put_byte(digit(n));
         }
         self.put_decimal(n / 10);
-        self.put_byte(digit(n % 10))
+        self.put_byte(digit(n % 10));
     }
 }
 

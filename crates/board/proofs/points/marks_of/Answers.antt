@@ -1,9 +1,8 @@
 use Prim.Native.Nat.{ℕ}
 use native.Mathlib.Omega.{arith}
-use mathlib.Core.List.{List}
-use mathlib.Core.Path.{sym, subst, ◌∙◌}
+use mathlib.Core.Path.{◌∙◌}
 use lib.ListN.{length}
-use Rattle.board.specs.Inner.{Gives, step_at, Rising}
+use Rattle.board.specs.Inner.{Gives}
 use Rattle.board.proofs.Marking.{Further, passing_start, passing_end, pass_on, ascending_none, ascending_same, ascending_more}
 use Rattle.board.proofs.points.marks_of.Goals as goal
 use Rattle.board.proofs.points.marks_of.Goals.{then-led, else-led+then-marks-last, else-led+else-marks-last}
@@ -11,12 +10,6 @@ use Rattle.board.proofs.points.marks_of.Goals.{then-led, else-led+then-marks-las
 -- `marks_of`: a turn goes on where a step leads to the number, where it is a size, or where it is neither.
 pub loop-last-init : goal.loop-last-init
 loop-last-init g c = rw c.new-steps.ensures (omega arith, ascending_none, λ of gives. passing_start (c.size_marks-marks.ensures of gives))
-
-pub led-requires-clause-rising : goal.led-requires-clause-rising
-led-requires-clause-rising g c = subst (λ (l : List ℕ). Rising (step_at l) (length l)) (sym c.as_slice.ensures) c.loop-last.invariant.1.rising
-
-pub push-requires : goal.push-requires
-push-requires g c = omega (arith, c.loop-last.invariant.1.few, c.requires.within)
 
 pub loop-last-preserved : goal.loop-last-preserved
 loop-last-preserved g c =

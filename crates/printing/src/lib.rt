@@ -52,9 +52,10 @@ impl<'a> Text<'a> {
     }
 }
 
+#[tactic(auto, unfolding(crate::specs::Decimal::digit))]
 fn digit(n: usize) -> u8
     requires { n < 10 }
     ensures { result ≡ digit n }
 {
-    (48 + n) as u8
+    b'0' + n as u8
 }

@@ -1,6 +1,6 @@
 -- Width plus height falls at each line.
-use Prim.Native.Nat.{◌+◌}
+use Rattle.tracer.specs.Inner.{sides_of}
 use Rattle.tracer.proofs.walk.+write.Given as goal
 
 abbrev pub decreases-write : goal.decreases-write
-decreases-write l = l.width + l.height
+decreases-write l = sides_of l.part

@@ -13,7 +13,7 @@ use Rattle.cutting.proofs.Rule.{best_is_worth}
 use Rattle.board.specs.Inner.{Rows, Hold}
 use Rattle.tracer.specs.Rules.{None, AddsUp, Fitting, TreeBy}
 use Rattle.std.proofs.Common.{Option}
-use Rattle.tracer.specs.declared.part.Step.{Step}
+use Rattle.tracer.specs.declared.Step.{Step}
 use Rattle.tracer.proofs.Strikes.{Strikes, ruled_strikes}
 use Rattle.tracer.proofs.ByRules.{trim}
 

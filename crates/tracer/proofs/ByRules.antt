@@ -17,16 +17,12 @@ use Rattle.cutting.proofs.Box.{box_induction}
 use Rattle.board.specs.Inner.{Rows, Hold}
 use Rattle.board.proofs.Holds.{row_of}
 use Rattle.tracer.specs.Rules.{Trimmed, Fitting, TreeBy}
-use Rattle.tracer.specs.Inner.{whole, near_wanted, far_wanted, trimmed_to, cut_out, step_in, tree_by, traces_by, traced, traces}
+use Rattle.tracer.specs.Inner.{part_of, WantedPart, whole, near_wanted, far_wanted, trimmed_to, cut_out, step_in, tree_by, traces_by, traced, traces}
 use Rattle.std.proofs.Common.{Option, Some, None}
-use Rattle.tracer.specs.declared.part.Wanted.{Wanted}
-use Rattle.tracer.specs.declared.part.Part.{Part}
-use Rattle.tracer.specs.declared.part.Step.{Step}
+use Rattle.tracer.specs.declared.Wanted.{Wanted}
+use Rattle.tracer.specs.declared.Step.{Step}
 use Rattle.tracer.proofs.Traced.{traced_own, traces_own}
 use Rattle.tracer.proofs.Strikes.{Strikes, ruled_strikes, strikes_only}
-
-abbrev part : ℕ → ℕ → Wanted → Part
-part x y wanted = record { width = x; height = y; wanted = wanted }
 
 -- A trim of a part that fits: with a line, or without.
 pub trim : (tall : Bool) {p x : ℕ} (t : Tree) → p ≤ x → (u : Tree) × Trimmed tall p x t u
@@ -34,22 +30,22 @@ trim tall {p} {x} t h = ⊎_elim (λ l. (t, Trimmed.whole (omega arith))) (λ l.
 
 module _ (rows : Rows) (cell : ℕ → ℕ → ℕ) where
   -- Rule 6.6 strikes nowhere in a part, and this is its tree.
-  abbrev IsTraced : Part → Tree → Type 0
+  abbrev IsTraced : WantedPart → Tree → Type 0
   IsTraced p tree = (traces rows cell p ≡ true) × (traced rows cell p ≡ tree)
 
-  own : (p : Part) {step : Option Step} {tree : Tree} → step_in rows cell p ≡ step → traces_by (traces rows cell) p step ≡ true
+  own : (p : WantedPart) {step : Option Step} {tree : Tree} → step_in rows cell p ≡ step → traces_by (traces rows cell) p step ≡ true
       → tree_by (traced rows cell) p step ≡ tree → IsTraced p tree
   own p e f g = (traces_own rows cell p e ∙ f, traced_own rows cell p e ∙ g)
 
-  line_own : (p : Part) {tall : Bool} {c : ℕ} {wanted : Wanted} {s t : Tree} → step_in rows cell p ≡ Some (Step.Line tall c wanted) → IsTraced (near_wanted tall c wanted p) s
+  line_own : (p : WantedPart) {tall : Bool} {c : ℕ} {wanted : Wanted} {s t : Tree} → step_in rows cell p ≡ Some (Step.Line tall c wanted) → IsTraced (near_wanted tall c wanted p) s
       → IsTraced (far_wanted tall c wanted p) t → IsTraced p (Tree.line tall c s t)
   unfolding traces_by tree_by
   line_own p {tall} {c} e n f = own p e (ap₂ ◌&&◌ n.0 f.0) (ap₂ (Tree.line tall c) n.1 f.1)
 
   -- What is waste is scrap.
-  waste_traced : (x y : ℕ) → IsTraced (part x y Wanted.Waste) Tree.scrap_s
+  waste_traced : (x y : ℕ) → IsTraced (part_of x y Wanted.Waste) Tree.scrap_s
   unfolding step_in traces_by tree_by
-  waste_traced x y = own (part x y Wanted.Waste) refl refl refl
+  waste_traced x y = own (part_of x y Wanted.Waste) refl refl refl
 
   -- A piece is cut out of a part by the lines of rule 6.5.
   module _ (k : ℕ) where
@@ -62,7 +58,7 @@ module _ (rows : Rows) (cell : ℕ → ℕ → ℕ) where
     abbrev piece : Wanted
     piece = Wanted.Piece k
 
-    wanted_step : (x y : ℕ) → step_in rows cell (part x y piece) ≡ Some (cut_out rows x y k)
+    wanted_step : (x y : ℕ) → step_in rows cell (part_of x y piece) ≡ Some (cut_out rows x y k)
     unfolding step_in
     wanted_step x y = refl
 
@@ -75,44 +71,44 @@ module _ (rows : Rows) (cell : ℕ → ℕ → ℕ) where
     trim_passes tall {size} {side} after h = not_chosen (says_and (says_le 1 size) (says_lt size side)) _ _ (λ l. omega (arith, l.1))
 
     module _ (wide : 1 ≤ p) (high : 1 ≤ q) where
-      piece_traced : IsTraced (part p q piece) (Tree.piece_p k)
+      piece_traced : IsTraced (part_of p q piece) (Tree.piece_p k)
       unfolding cut_out traces_by tree_by
       piece_traced =
-          own (part p q piece) (wanted_step p q ∙ ap Some (trim_passes false _ (omega arith) ∙ trim_passes true _ (omega arith))) refl refl
+          own (part_of p q piece) (wanted_step p q ∙ ap Some (trim_passes false _ (omega arith) ∙ trim_passes true _ (omega arith))) refl refl
 
-      up_traced : {y : ℕ} {s : Tree} → Trimmed true q y (Tree.piece_p k) s → IsTraced (part p y piece) s
+      up_traced : {y : ℕ} {s : Tree} → Trimmed true q y (Tree.piece_p k) s → IsTraced (part_of p y piece) s
       unfolding cut_out
       up_traced {y} (Trimmed.cut l) =
-          line_own (part p y piece) (wanted_step p y ∙ ap Some (trim_passes false _ (omega arith) ∙ trim_cuts true _ high l)) piece_traced
+          line_own (part_of p y piece) (wanted_step p y ∙ ap Some (trim_passes false _ (omega arith) ∙ trim_cuts true _ high l)) piece_traced
           (waste_traced p (rest y q))
-      up_traced (Trimmed.whole e) = subst (λ (y : ℕ). IsTraced (part p y piece) (Tree.piece_p k)) e piece_traced
+      up_traced (Trimmed.whole e) = subst (λ (y : ℕ). IsTraced (part_of p y piece) (Tree.piece_p k)) e piece_traced
 
-      across_traced : {x : ℕ} (y : ℕ) {s t : Tree} → Trimmed false p x s t → IsTraced (part p y piece) s → IsTraced (part x y piece) t
+      across_traced : {x : ℕ} (y : ℕ) {s t : Tree} → Trimmed false p x s t → IsTraced (part_of p y piece) s → IsTraced (part_of x y piece) t
       unfolding cut_out
       across_traced {x} y (Trimmed.cut l) d =
-          line_own (part x y piece) (wanted_step x y ∙ ap Some (trim_cuts false _ wide l)) d (waste_traced (rest x p) y)
-      across_traced {x} y {t = t} (Trimmed.whole e) d = subst (λ (x : ℕ). IsTraced (part x y piece) t) e d
+          line_own (part_of x y piece) (wanted_step x y ∙ ap Some (trim_cuts false _ wide l)) d (waste_traced (rest x p) y)
+      across_traced {x} y {t = t} (Trimmed.whole e) d = subst (λ (x : ℕ). IsTraced (part_of x y piece) t) e d
 
   -- The next step of a part decides alone: what was wanted of it makes no difference after that.
-  same_tree : (x y : ℕ) (v w : Wanted) (step : Option Step) → tree_by (traced rows cell) (part x y v) step ≡ tree_by (traced rows cell) (part x y w) step
+  same_tree : (x y : ℕ) (v w : Wanted) (step : Option Step) → tree_by (traced rows cell) (part_of x y v) step ≡ tree_by (traced rows cell) (part_of x y w) step
   unfolding tree_by
   same_tree x y v w None = refl
   same_tree x y v w (Some Step.Scrap) = refl
   same_tree x y v w (Some (Step.Piece k)) = refl
   same_tree x y v w (Some (Step.Line tall c _)) = refl
 
-  same_test : (x y : ℕ) (v w : Wanted) (step : Option Step) → traces_by (traces rows cell) (part x y v) step ≡ traces_by (traces rows cell) (part x y w) step
+  same_test : (x y : ℕ) (v w : Wanted) (step : Option Step) → traces_by (traces rows cell) (part_of x y v) step ≡ traces_by (traces rows cell) (part_of x y w) step
   unfolding traces_by
   same_test x y v w None = refl
   same_test x y v w (Some Step.Scrap) = refl
   same_test x y v w (Some (Step.Piece k)) = refl
   same_test x y v w (Some (Step.Line tall c _)) = refl
 
-  wanted_traced : (x y : ℕ) (v w : Wanted) {step : Option Step} {tree : Tree} → step_in rows cell (part x y v) ≡ step → step_in rows cell (part x y w) ≡ step
-      → IsTraced (part x y w) tree → IsTraced (part x y v) tree
+  wanted_traced : (x y : ℕ) (v w : Wanted) {step : Option Step} {tree : Tree} → step_in rows cell (part_of x y v) ≡ step → step_in rows cell (part_of x y w) ≡ step
+      → IsTraced (part_of x y w) tree → IsTraced (part_of x y v) tree
   wanted_traced x y v w {step} e f d =
-      own (part x y v) e (same_test x y v w step ∙ (sym (traces_own rows cell (part x y w) f) ∙ d.0))
-      (same_tree x y v w step ∙ (sym (traced_own rows cell (part x y w) f) ∙ d.1))
+      own (part_of x y v) e (same_test x y v w step ∙ (sym (traces_own rows cell (part_of x y w) f) ∙ d.0))
+      (same_tree x y v w step ∙ (sym (traced_own rows cell (part_of x y w) f) ∙ d.1))
 
 module _ {pieces : List Piece} {rows : Rows} {a b : ℕ} (hold : Hold rows pieces a b) (range : InRange (Lays pieces))
     (cell : ℕ → ℕ → ℕ) where

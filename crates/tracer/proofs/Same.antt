@@ -13,10 +13,9 @@ use Rattle.cutting.specs.Tree.{Tree}
 use Rattle.cutting.proofs.Tree.{line_far, part_inside}
 use Rattle.board.specs.Inner.{Rows}
 use Rattle.std.proofs.Common.{Option, Some, None}
-use Rattle.tracer.specs.declared.part.Wanted.{Wanted}
-use Rattle.tracer.specs.declared.part.Part.{Part}
-use Rattle.tracer.specs.declared.part.Step.{Step}
-use Rattle.tracer.specs.Inner.{near_wanted, far_wanted, two_cells, marks, some_number, adds_to, least_line, ruled, step_in, tree_by, traces_by, sides_of, traced, traces}
+use Rattle.tracer.specs.declared.Wanted.{Wanted}
+use Rattle.tracer.specs.declared.Step.{Step}
+use Rattle.tracer.specs.Inner.{WantedPart, near_wanted, far_wanted, two_cells, marks, some_number, adds_to, least_line, ruled, step_in, tree_by, traces_by, sides_of, traced, traces}
 use Rattle.tracer.proofs.Traced.{step_inside, near_less, far_less, traced_own, traces_own}
 
 -- The cells of the rectangle agree.
@@ -39,7 +38,7 @@ module _ (rows : Rows) (cell other : ℕ → ℕ → ℕ) where
   unfolding ruled
   ruled_same x y h k same = rw (same x y (omega arith), line_same false (other x y) x y h k same, line_same true (other x y) x y h k same)
 
-  step_same : (p : Part) → 1 ≤ p.width → 1 ≤ p.height → Same p.width p.height → step_in rows cell p ≡ step_in rows other p
+  step_same : (p : WantedPart) → 1 ≤ p.width → 1 ≤ p.height → Same p.width p.height → step_in rows cell p ≡ step_in rows other p
   unfolding step_in
   step_same p h k same = go p.wanted
     where
@@ -48,16 +47,16 @@ module _ (rows : Rows) (cell other : ℕ → ℕ → ℕ) where
       go (Wanted.Piece n) = refl
       go Wanted.Waste = refl
 
-  abbrev Agree : Part → Type 0
+  abbrev Agree : WantedPart → Type 0
   Agree p = 1 ≤ p.width → 1 ≤ p.height → Same p.width p.height → (traced rows cell p ≡ traced rows other p) × (traces rows cell p ≡ traces rows other p)
 
-  agree : (p : Part) → Agree p
+  agree : (p : WantedPart) → Agree p
   unfolding tree_by traces_by
   agree = by_size sides_of Agree (λ p below h k same. let e = step_same p h k same in
       let goes = go p below h k same (step_in rows other p) refl in
       (traced_own rows cell p e ∙ (goes.0 ∙ sym (traced_own rows other p refl)), traces_own rows cell p e ∙ (goes.1 ∙ sym (traces_own rows other p refl))))
     where
-      go : (p : Part) → ((q : Part) → sides_of q < sides_of p → Agree q) → 1 ≤ p.width → 1 ≤ p.height → Same p.width p.height → (step : Option Step)
+      go : (p : WantedPart) → ((q : WantedPart) → sides_of q < sides_of p → Agree q) → 1 ≤ p.width → 1 ≤ p.height → Same p.width p.height → (step : Option Step)
           → step_in rows other p ≡ step
           → (tree_by (traced rows cell) p step ≡ tree_by (traced rows other) p step) × (traces_by (traces rows cell) p step ≡ traces_by (traces rows other) p step)
       go p below h k same None e = (refl, refl)
@@ -73,8 +72,8 @@ module _ (rows : Rows) (cell other : ℕ → ℕ → ℕ) where
           (λ u w i. same u w (omega (arith, i, far))) in
           (ap₂ (Tree.line tall c) n.0 f.0, ap₂ ◌&&◌ n.1 f.1)
 
-  pub traced_same : (p : Part) → 1 ≤ p.width → 1 ≤ p.height → Same p.width p.height → traced rows cell p ≡ traced rows other p
+  pub traced_same : (p : WantedPart) → 1 ≤ p.width → 1 ≤ p.height → Same p.width p.height → traced rows cell p ≡ traced rows other p
   traced_same p h k same = (agree p h k same).0
 
-  pub traces_same : (p : Part) → 1 ≤ p.width → 1 ≤ p.height → Same p.width p.height → traces rows cell p ≡ traces rows other p
+  pub traces_same : (p : WantedPart) → 1 ≤ p.width → 1 ≤ p.height → Same p.width p.height → traces rows cell p ≡ traces rows other p
   traces_same p h k same = (agree p h k same).1

@@ -4,8 +4,8 @@ use Rattle.laws.proofs.Says.{says_eq}
 use Rattle.laws.proofs.Choice.{taken, left}
 use Rattle.laws.proofs.First.{number_most}
 use Rattle.board.specs.Inner.{Rows}
-use Rattle.tracer.specs.declared.part.Wanted.{Wanted}
-use Rattle.tracer.specs.declared.part.Step.{Step}
+use Rattle.tracer.specs.declared.Wanted.{Wanted}
+use Rattle.tracer.specs.declared.Step.{Step}
 use Rattle.tracer.specs.Inner.{is_size, fits_in, suits, first_piece, least_line, cut_out, strikes, ruled}
 use Rattle.tracer.proofs.Traced.{some_number_is}
 

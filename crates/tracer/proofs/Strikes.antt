@@ -21,8 +21,8 @@ use Rattle.tracer.proofs.Least.{least_unique}
 use Rattle.tracer.specs.Inner.{two_cells, marks, is_size, fits_in, suits, some_number, first_piece, adds_to, least_line, cut_out, strikes, ruled}
 use Rattle.std.proofs.Common.{Option}
 use Rattle.std.specs.declared.option.Option.TheVariants.{None as nothing, Some}
-use Rattle.tracer.specs.declared.part.Wanted.{Wanted}
-use Rattle.tracer.specs.declared.part.Step.{Step}
+use Rattle.tracer.specs.declared.Wanted.{Wanted}
+use Rattle.tracer.specs.declared.Step.{Step}
 
 -- What a search found: the least of a set of numbers, or nothing where there is none.
 pub data Searched (S : ℕ → Type 0) : Option ℕ → Type 0 where

@@ -21,22 +21,21 @@ use Rattle.nodes.specs.Encoding.{letter_of, encode}
 use Rattle.nodes.proofs.Encoding.{node-length, line-length}
 use Rattle.std.proofs.Common.{Option, Some, None, unwrap_or}
 use Rattle.std.proofs.lemmas.Option.{none-some, same_Some, cond_some}
-use Rattle.tracer.specs.declared.part.Wanted.{Wanted}
-use Rattle.tracer.specs.declared.part.Part.{Part}
-use Rattle.tracer.specs.declared.part.Step.{Step}
-use Rattle.tracer.specs.Inner.{near_wanted, far_wanted, suits, some_number, first_piece, adds_to, least_line, trimmed_to, cut_out, strikes, ruled, step_in, tree_by, traces_by, sides_of, traced, traces, measured, node_of, length_most, Among}
+use Rattle.tracer.specs.declared.Wanted.{Wanted}
+use Rattle.tracer.specs.declared.Step.{Step}
+use Rattle.tracer.specs.Inner.{WantedPart, near_wanted, far_wanted, suits, some_number, first_piece, adds_to, least_line, trimmed_to, cut_out, strikes, ruled, step_in, tree_by, traces_by, sides_of, traced, traces, measured, node_of, length_most, Among}
 
 -- What a step says of its part: a line lies inside the side that it crosses, and what is wanted of its near part is as `Good` says.
-pub record LineStep (Good : Wanted → Type 0) (p : Part) (tall : Bool) (c : ℕ) (wanted : Wanted) : Type 0 where
+pub record LineStep (Good : Wanted → Type 0) (p : WantedPart) (tall : Bool) (c : ℕ) (wanted : Wanted) : Type 0 where
   pub inside : Line (crossed tall p.width p.height) c (rest (crossed tall p.width p.height) c)
   pub near : Good wanted
 
-abbrev StepIs : (Wanted → Type 0) → Part → Step → Type 0
+abbrev StepIs : (Wanted → Type 0) → WantedPart → Step → Type 0
 StepIs Good p Step.Scrap = Unit {0}
 StepIs Good p (Step.Piece k) = Unit {0}
 StepIs Good p (Step.Line tall c wanted) = LineStep Good p tall c wanted
 
-abbrev Steps : (Wanted → Type 0) → Part → Option Step → Type 0
+abbrev Steps : (Wanted → Type 0) → WantedPart → Option Step → Type 0
 Steps Good p None = Unit {0}
 Steps Good p (Some s) = StepIs Good p s
 
@@ -45,7 +44,7 @@ pub some_number_is : (n : ℕ) {k : ℕ} → some_number n ≡ Some k → (1 ≤
 some_number_is zero {k} e = absurd (none-some k e)
 some_number_is (suc n) {k} e = let i = same_Some (suc n) k e in (omega arith, i)
 
-module _ (rows : Rows) (cell : ℕ → ℕ → ℕ) (p : Part) (Good : Wanted → Type 0) (free : Good Wanted.Free)
+module _ (rows : Rows) (cell : ℕ → ℕ → ℕ) (p : WantedPart) (Good : Wanted → Type 0) (free : Good Wanted.Free)
     (pieces : (k : ℕ) → 1 ≤ k → k ≤ rows.count → Good (Wanted.Piece k)) where
   abbrev x : ℕ
   x = p.width
@@ -104,31 +103,31 @@ module _ (rows : Rows) (cell : ℕ → ℕ → ℕ) (p : Part) (Good : Wanted �
 
 module _ (rows : Rows) (cell : ℕ → ℕ → ℕ) where
   -- A line lies inside the side that it crosses, whatever the rows hold and whatever is wanted.
-  any_steps : (p : Part) → Steps (λ _. Unit {0}) p (step_in rows cell p)
+  any_steps : (p : WantedPart) → Steps (λ _. Unit {0}) p (step_in rows cell p)
   any_steps p = next_steps rows cell p (λ _. Unit {0}) tt (λ k l h. tt) (λ k e. tt)
 
-  pub step_inside : (p : Part) {tall : Bool} {c : ℕ} {wanted : Wanted} → step_in rows cell p ≡ Some (Step.Line tall c wanted)
+  pub step_inside : (p : WantedPart) {tall : Bool} {c : ℕ} {wanted : Wanted} → step_in rows cell p ≡ Some (Step.Line tall c wanted)
       → Line (crossed tall p.width p.height) c (rest (crossed tall p.width p.height) c)
   step_inside p e = (subst (Steps (λ _. Unit {0}) p) e (any_steps p)).inside
 
   -- Its near part is free, or has a piece of the rows cut out of it.
-  pub step_among : (p : Part) {tall : Bool} {c : ℕ} {wanted : Wanted} → Among rows p.wanted → step_in rows cell p ≡ Some (Step.Line tall c wanted)
+  pub step_among : (p : WantedPart) {tall : Bool} {c : ℕ} {wanted : Wanted} → Among rows p.wanted → step_in rows cell p ≡ Some (Step.Line tall c wanted)
       → Among rows wanted
   step_among p w e = (subst (Steps (Among rows) p) e (next_steps rows cell p (Among rows) tt (λ k l h. (l, h)) (λ k i. subst (Among rows) i w))).near
 
 -- A line at c lies inside the side of a part that it crosses.
-abbrev pub LineIn : Bool → ℕ → Part → Type 0
+abbrev pub LineIn : Bool → ℕ → WantedPart → Type 0
 LineIn tall c p = Line (crossed tall p.width p.height) c (rest (crossed tall p.width p.height) c)
 
-pub near_less : (tall : Bool) (c : ℕ) (wanted : Wanted) (p : Part) → LineIn tall c p → sides_of (near_wanted tall c wanted p) < sides_of p
+pub near_less : (tall : Bool) (c : ℕ) (wanted : Wanted) (p : WantedPart) → LineIn tall c p → sides_of (near_wanted tall c wanted p) < sides_of p
 near_less tall c _ p l = part_less tall p.width p.height c (omega (arith, l.least, l.most))
 
-pub far_less : (tall : Bool) (c : ℕ) (wanted : Wanted) (p : Part) → LineIn tall c p → sides_of (far_wanted tall c wanted p) < sides_of p
+pub far_less : (tall : Bool) (c : ℕ) (wanted : Wanted) (p : WantedPart) → LineIn tall c p → sides_of (far_wanted tall c wanted p) < sides_of p
 far_less tall c _ p l = part_less tall p.width p.height (rest (crossed tall p.width p.height) c) (omega (arith, l.least, l.most))
 
 module _ (rows : Rows) (cell : ℕ → ℕ → ℕ) where
   -- The tree and the test look at the two parts of a line alone, and these are smaller.
-  tree_parts : (g h : Part → Tree) (p : Part) → ((q : Part) → sides_of q < sides_of p → g q ≡ h q)
+  tree_parts : (g h : WantedPart → Tree) (p : WantedPart) → ((q : WantedPart) → sides_of q < sides_of p → g q ≡ h q)
       → tree_by g p (step_in rows cell p) ≡ tree_by h p (step_in rows cell p)
   unfolding tree_by
   tree_parts g h p same = go (step_in rows cell p) (any_steps rows cell p)
@@ -139,7 +138,7 @@ module _ (rows : Rows) (cell : ℕ → ℕ → ℕ) where
       go (Some (Step.Piece k)) s = refl
       go (Some (Step.Line tall c wanted)) s = ap₂ (Tree.line tall c) (same _ (near_less tall c wanted p s.inside)) (same _ (far_less tall c wanted p s.inside))
 
-  test_parts : (g h : Part → Bool) (p : Part) → ((q : Part) → sides_of q < sides_of p → g q ≡ h q)
+  test_parts : (g h : WantedPart → Bool) (p : WantedPart) → ((q : WantedPart) → sides_of q < sides_of p → g q ≡ h q)
       → traces_by g p (step_in rows cell p) ≡ traces_by h p (step_in rows cell p)
   unfolding traces_by
   test_parts g h p same = go (step_in rows cell p) (any_steps rows cell p)
@@ -151,16 +150,16 @@ module _ (rows : Rows) (cell : ℕ → ℕ → ℕ) where
       go (Some (Step.Line tall c wanted)) s = ap₂ ◌&&◌ (same _ (near_less tall c wanted p s.inside)) (same _ (far_less tall c wanted p s.inside))
 
   -- The equations of the tree and of the test, where the next step is known.
-  pub traced_own : (p : Part) {step : Option Step} → step_in rows cell p ≡ step → traced rows cell p ≡ tree_by (traced rows cell) p step
+  pub traced_own : (p : WantedPart) {step : Option Step} → step_in rows cell p ≡ step → traced rows cell p ≡ tree_by (traced rows cell) p step
   unfolding traced
   traced_own p e =
-      let tree : (Part → Tree) → Part → Tree = λ read q. tree_by read q (step_in rows cell q) in
+      let tree : (WantedPart → Tree) → WantedPart → Tree = λ read q. tree_by read q (step_in rows cell q) in
       deep_own sides_of Tree.scrap_s tree tree_parts p ∙ ap (tree_by (deep sides_of Tree.scrap_s tree) p) e
 
-  pub traces_own : (p : Part) {step : Option Step} → step_in rows cell p ≡ step → traces rows cell p ≡ traces_by (traces rows cell) p step
+  pub traces_own : (p : WantedPart) {step : Option Step} → step_in rows cell p ≡ step → traces rows cell p ≡ traces_by (traces rows cell) p step
   unfolding traces
   traces_own p e =
-      let test : (Part → Bool) → Part → Bool = λ read q. traces_by read q (step_in rows cell q) in
+      let test : (WantedPart → Bool) → WantedPart → Bool = λ read q. traces_by read q (step_in rows cell q) in
       deep_own sides_of false test test_parts p ∙ ap (traces_by (deep sides_of false test) p) e
 
 scrap-length : length (encode Tree.scrap_s) ≡ node_length
@@ -185,7 +184,7 @@ pub record MeasuredLine (near far whole : Option ℕ) : Type 0 where
   pub no_far : far ≡ None → None ≡ whole
   pub both : {m n : ℕ} → near ≡ Some m → far ≡ Some n → Some (node_length + m + n) ≡ whole
 
-module _ (rows : Rows) (cell : ℕ → ℕ → ℕ) (p : Part) where
+module _ (rows : Rows) (cell : ℕ → ℕ → ℕ) (p : WantedPart) where
   -- What a part measures, by its test and its tree.
   abbrev by_test : Bool → Tree → Option ℕ
   by_test b t = cond b (Some (length (encode t))) None
@@ -218,10 +217,10 @@ module _ (rows : Rows) (cell : ℕ → ℕ → ℕ) (p : Part) where
 
   -- A line's two parts, each by itself.
   module _ {tall : Bool} {c : ℕ} {wanted : Wanted} (e : step_in rows cell p ≡ Some (Step.Line tall c wanted)) where
-    abbrev near : Part
+    abbrev near : WantedPart
     near = near_wanted tall c wanted p
 
-    abbrev far : Part
+    abbrev far : WantedPart
     far = far_wanted tall c wanted p
 
     line_own : by_test (traces rows cell near && traces rows cell far) (Tree.line tall c (traced rows cell near) (traced rows cell far)) ≡ measured rows cell p
@@ -250,20 +249,20 @@ module _ (rows : Rows) (cell : ℕ → ℕ → ℕ) (p : Part) where
     nodes_line = ap encode (traced_own rows cell p e)
 
 -- No tree is longer than two nodes for each unit of area.
-abbrev Bounded : Part → Tree → Type 0
+abbrev Bounded : WantedPart → Tree → Type 0
 Bounded p t = 1 ≤ p.width → 1 ≤ p.height → length (encode t) + node_length ≤ 2 * node_length * (p.width * p.height)
 
 unit : (x y n : ℕ) → 1 ≤ x → 1 ≤ y → n ≡ node_length → n + node_length ≤ 2 * node_length * (x * y)
 unit x y n h k e = omega (arith, e, mul-le-mul {n₁ = 1} {m₁ = 1} h k)
 
 module _ (rows : Rows) (cell : ℕ → ℕ → ℕ) where
-  nodes_most : (p : Part) → Bounded p (traced rows cell p)
+  nodes_most : (p : WantedPart) → Bounded p (traced rows cell p)
   unfolding tree_by
   nodes_most =
       by_size sides_of (λ p. Bounded p (traced rows cell p))
       (λ p below. subst (Bounded p) (sym (traced_own rows cell p refl)) (grown p below (step_in rows cell p) (any_steps rows cell p)))
     where
-      grown : (p : Part) → ((q : Part) → sides_of q < sides_of p → Bounded q (traced rows cell q)) → (step : Option Step) → Steps (λ _. Unit {0}) p step
+      grown : (p : WantedPart) → ((q : WantedPart) → sides_of q < sides_of p → Bounded q (traced rows cell q)) → (step : Option Step) → Steps (λ _. Unit {0}) p step
           → Bounded p (tree_by (traced rows cell) p step)
       grown p below None s h k = unit _ _ _ h k scrap-length
       grown p below (Some Step.Scrap) s h k = unit _ _ _ h k scrap-length
@@ -275,7 +274,7 @@ module _ (rows : Rows) (cell : ℕ → ℕ → ℕ) where
           let all = length_line tall c (traced rows cell (near_wanted tall c wanted p)) (traced rows cell (far_wanted tall c wanted p)) in
           omega (arith, all, near, far, parts_area tall p.width p.height c _ l)
 
-  pub measured_most : (p : Part) {n : ℕ} → 1 ≤ p.width → p.width ≤ side_max → 1 ≤ p.height → p.height ≤ side_max → measured rows cell p ≡ Some n
+  pub measured_most : (p : WantedPart) {n : ℕ} → 1 ≤ p.width → p.width ≤ side_max → 1 ≤ p.height → p.height ≤ side_max → measured rows cell p ≡ Some n
       → n ≤ length_most
   unfolding measured
   measured_most p {n} h k l m e =

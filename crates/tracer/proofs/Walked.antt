@@ -4,12 +4,12 @@ use Rattle.cutting.specs.Piece.{Inside}
 use Rattle.cutting.specs.Dissection.{rest, crossed, part_width, part_height, Line}
 use Rattle.cutting.proofs.Tree.{line_far, part_inside}
 use Rattle.cells.specs.Inner.{Holds}
+use Rattle.board.specs.declared.Board.{Board}
 use Rattle.board.specs.Inner.{rows_on, width_on, height_on}
 use Rattle.nodes.specs.Encoding.{encode}
-use Rattle.tracer.specs.declared.part.Wanted.{Wanted}
-use Rattle.tracer.specs.declared.part.Part.{Part}
-use Rattle.tracer.specs.declared.part.Step.{Step}
-use Rattle.tracer.specs.Inner.{beyond, near_wanted, far_wanted, sides_of, step_in, traced, measured, node_of, length_most, Among, Traceable}
+use Rattle.tracer.specs.declared.Wanted.{Wanted}
+use Rattle.tracer.specs.declared.Step.{Step}
+use Rattle.tracer.specs.Inner.{WantedPart, part_of, beyond, near_wanted, far_wanted, sides_of, step_in, traced, measured, node_of, length_most, Among, Traceable}
 use Rattle.laws.specs.Inner.{Room, Wrote}
 use Rattle.tracer.proofs.Wrote.{near_room, far_room, wrote_line}
 use Rattle.tracer.proofs.Traced.{MeasuredLine, step_inside, step_among, near_less, far_less, measured_line, measured_most, nodes_line}
@@ -17,7 +17,7 @@ use Rattle.tracer.proofs.Traced.{MeasuredLine, step_inside, step_among, near_les
 scrap-line : {tall : Bool} {c : ℕ} {wanted : Wanted} → Step.Scrap ≡ Step.Line tall c wanted → ⊥
 scrap-line e = cc
 
-beyond_among : (board : List ℕ) (wanted : Wanted) → Among (rows_on board) (beyond wanted)
+beyond_among : (board : Board) (wanted : Wanted) → Among (rows_on board) (beyond wanted)
 beyond_among board Wanted.Free = tt
 beyond_among board (Wanted.Piece k) = tt
 beyond_among board Wanted.Waste = tt
@@ -32,14 +32,28 @@ line_or_scrap {s = None} e f g = absurd (scrap-line (sym f ∙ g))
 line_or_scrap {s = Some u} e f g = some_line e (ap Some (sym f)) g
 
 -- No part measures more than the whole table may.
-pub part_short : {board t : List ℕ} {p : Part} (cell : ℕ → ℕ → ℕ) {k : Option ℕ} {n : ℕ} → Traceable board p → Holds (width_on board) (height_on board) t
+pub part_short : {board : Board} {t : List ℕ} {p : WantedPart} (cell : ℕ → ℕ → ℕ) {k : Option ℕ} {n : ℕ} → Traceable board p → Holds (width_on board) (height_on board) t
     → k ≡ measured (rows_on board) cell p → k ≡ Some n → n ≤ length_most
 part_short {board} {p = p} cell r h e f =
     let i = r.inside in
     measured_most (rows_on board) cell p i.width_least (omega arith) i.height_least (omega arith) (sym e ∙ f)
 
+-- The two parts of a line at c as the code made them: k stands for c, r for what it leaves of the side, and the sides are w by h.
+pub record NearPart (p : WantedPart) (tall : Bool) (c k w h : ℕ) : Type 0 where
+  pub place : k ≡ c
+  pub width : w ≡ part_width tall p.width k
+  pub height : h ≡ part_height tall p.height k
+
+pub record FarPart (p : WantedPart) (tall : Bool) (c : ℕ) (wanted : Wanted) (k side r w h : ℕ) (b : Wanted) : Type 0 where
+  pub place : k ≡ c
+  pub across : side ≡ crossed tall p.width p.height
+  pub leaves : r ≡ rest side k
+  pub width : w ≡ part_width tall p.width r
+  pub height : h ≡ part_height tall p.height r
+  pub is : b ≡ beyond wanted
+
 -- The code found a line.
-module _ {board : List ℕ} {p : Part} (ready : Traceable board p) (cell : ℕ → ℕ → ℕ) {tall : Bool} {c : ℕ} {wanted : Wanted}
+module _ {board : Board} {p : WantedPart} (ready : Traceable board p) (cell : ℕ → ℕ → ℕ) {tall : Bool} {c : ℕ} {wanted : Wanted}
     (step : step_in (rows_on board) cell p ≡ Some (Step.Line tall c wanted)) where
   pub line_inside : Line (crossed tall p.width p.height) c (rest (crossed tall p.width p.height) c)
   line_inside = step_inside (rows_on board) cell p step
@@ -57,41 +71,53 @@ module _ {board : List ℕ} {p : Part} (ready : Traceable board p) (cell : ℕ �
   far_ready : Traceable board (far_wanted tall c wanted p)
   far_ready = record { wanted = beyond_among board wanted; inside = part_in (line_far line_inside) (omega arith) }
 
-  called : {n : ℕ} {q u : Part} → Traceable board u → sides_of u < sides_of p → q ≡ u → sides_of p ≡ n → (sides_of q < n) × Traceable board q
-  called {n} a h e g = subst (λ (v : Part). (sides_of v < n) × Traceable board v) (sym e) (omega arith, a)
+  called : {n : ℕ} {q u : WantedPart} → Traceable board u → sides_of u < sides_of p → q ≡ u → sides_of p ≡ n → (sides_of q < n) × Traceable board q
+  called {n} a h e g = subst (λ (v : WantedPart). (sides_of v < n) × Traceable board v) (sym e) (omega arith, a)
 
-  -- Its two parts as the code made them.
-  module _ {q : Part} (near : q ≡ near_wanted tall c wanted p) where
-    pub near_call : {n : ℕ} → sides_of p ≡ n → (sides_of q < n) × Traceable board q
-    near_call = called near_ready (near_less tall c wanted p line_inside) near
+  near_is : {k w h : ℕ} → NearPart p tall c k w h → part_of w h wanted ≡ near_wanted tall c wanted p
+  near_is n = let e = n.place in let f = n.width in let g = n.height in cc
 
-  module _ {r : Part} (far : r ≡ far_wanted tall c wanted p) where
-    pub far_call : {n : ℕ} → sides_of p ≡ n → (sides_of r < n) × Traceable board r
-    far_call = called far_ready (far_less tall c wanted p line_inside) far
+  far_is : {k side r w h : ℕ} {b : Wanted} → FarPart p tall c wanted k side r w h b → part_of w h b ≡ far_wanted tall c wanted p
+  far_is n = let e = n.place in let f = n.across in let g = n.leaves in let i = n.width in let j = n.height in let l = n.is in cc
 
-    module _ {q : Part} (near : q ≡ near_wanted tall c wanted p) where
-      -- What they measure.
-      pub parts_measure : MeasuredLine (measured (rows_on board) cell q) (measured (rows_on board) cell r) (measured (rows_on board) cell p)
-      parts_measure = rw (near, far) (measured_line (rows_on board) cell p step)
+  pub near_call : {k w h : ℕ} → NearPart p tall c k w h → {n : ℕ} → sides_of p ≡ n → (sides_of (part_of w h wanted) < n) × Traceable board (part_of w h wanted)
+  near_call near = called near_ready (near_less tall c wanted p line_inside) (near_is near)
 
-      -- Their nodes, behind that of the step s, which is the line.
-      line_nodes : {s : Step} → s ≡ Step.Line tall c wanted → encode (traced (rows_on board) cell p)
-          ≡ node_of s ++ (encode (traced (rows_on board) cell q) ++ encode (traced (rows_on board) cell r))
-      line_nodes e = rw (e, near, far) (nodes_line (rows_on board) cell p step)
+  pub far_call : {k side r w h : ℕ} {b : Wanted} → FarPart p tall c wanted k side r w h b → {n : ℕ} → sides_of p ≡ n
+      → (sides_of (part_of w h b) < n) × Traceable board (part_of w h b)
+  far_call far = called far_ready (far_less tall c wanted p line_inside) (far_is far)
+
+  -- What the line measures by its parts.
+  pub near_measures : {k w h : ℕ} → NearPart p tall c k w h
+      → MeasuredLine (measured (rows_on board) cell (part_of w h wanted)) (measured (rows_on board) cell (far_wanted tall c wanted p)) (measured (rows_on board) cell p)
+  near_measures near = rw (near_is near) (measured_line (rows_on board) cell p step)
+
+  pub parts_measure : {k w h : ℕ} → NearPart p tall c k w h → {side r u v : ℕ} {b : Wanted} → FarPart p tall c wanted k side r u v b
+      → MeasuredLine (measured (rows_on board) cell (part_of w h wanted)) (measured (rows_on board) cell (part_of u v b)) (measured (rows_on board) cell p)
+  parts_measure near far = rw (near_is near, far_is far) (measured_line (rows_on board) cell p step)
+
+  -- The nodes of its parts q and r, behind that of the step s, which is the line.
+  line_nodes : {q r : WantedPart} {s : Step} → s ≡ Step.Line tall c wanted → q ≡ near_wanted tall c wanted p → r ≡ far_wanted tall c wanted p
+      → encode (traced (rows_on board) cell p) ≡ node_of s ++ (encode (traced (rows_on board) cell q) ++ encode (traced (rows_on board) cell r))
+  line_nodes e near far = rw (e, near, far) (nodes_line (rows_on board) cell p step)
 
   -- The line's node is written: there is room for the near part, then for the far part, and with that the line is written.
-  module _ {s : Step} (is : s ≡ Step.Line tall c wanted) {q : Part} (near : q ≡ near_wanted tall c wanted p)
+  module _ {s : Step} (is : s ≡ Step.Line tall c wanted) {k w h : ℕ} (near : NearPart p tall c k w h)
       {o o2 : List ℕ} {at m : ℕ} (room : Room o at (encode (traced (rows_on board) cell p))) (first : Wrote o at (node_of s) m o2) where
-    pub near_write : {n : ℕ} → sides_of p ≡ n → (sides_of q < n) × (Traceable board q × Room o2 m (encode (traced (rows_on board) cell q)))
+    pub near_write : {n : ℕ} → sides_of p ≡ n
+        → (sides_of (part_of w h wanted) < n) × (Traceable board (part_of w h wanted) × Room o2 m (encode (traced (rows_on board) cell (part_of w h wanted))))
     near_write e =
         let call = near_call near e in
-        (call.0, (call.1, near_room _ _ _ (line_nodes refl near is) room first))
+        (call.0, (call.1, near_room _ _ _ (line_nodes is (near_is near) refl) room first))
 
-    module _ {r : Part} (far : r ≡ far_wanted tall c wanted p) {o3 : List ℕ} {k : ℕ} (second : Wrote o2 m (encode (traced (rows_on board) cell q)) k o3) where
-      pub far_write : {n : ℕ} → sides_of p ≡ n → (sides_of r < n) × (Traceable board r × Room o3 k (encode (traced (rows_on board) cell r)))
+    module _ {side r u v : ℕ} {b : Wanted} (far : FarPart p tall c wanted k side r u v b)
+        {o3 : List ℕ} {j : ℕ} (second : Wrote o2 m (encode (traced (rows_on board) cell (part_of w h wanted))) j o3) where
+      pub far_write : {n : ℕ} → sides_of p ≡ n
+          → (sides_of (part_of u v b) < n) × (Traceable board (part_of u v b) × Room o3 j (encode (traced (rows_on board) cell (part_of u v b))))
       far_write e =
           let call = far_call far e in
-          (call.0, (call.1, far_room _ _ _ (line_nodes far near is) room first second))
+          (call.0, (call.1, far_room _ _ _ (line_nodes is (near_is near) (far_is far)) room first second))
 
-      pub line_written : {l : ℕ} {o4 : List ℕ} → Wrote o3 k (encode (traced (rows_on board) cell r)) l o4 → Wrote o at (encode (traced (rows_on board) cell p)) l o4
-      line_written third = wrote_line _ _ _ (line_nodes far near is) room first second third
+      pub line_written : {l : ℕ} {o4 : List ℕ} → Wrote o3 j (encode (traced (rows_on board) cell (part_of u v b))) l o4
+          → Wrote o at (encode (traced (rows_on board) cell p)) l o4
+      line_written third = wrote_line _ _ _ (line_nodes is (near_is near) (far_is far)) room first second third

@@ -12,7 +12,7 @@ use Rattle.fields.specs.Number.{bytes2}
 use Rattle.fields.specs.Format.{node_length}
 use Rattle.nodes.specs.Encoding.{node, encode}
 use Rattle.nodes.proofs.Encoding.{node-length, encode_least}
-use Rattle.tracer.specs.declared.part.Step.{Step}
+use Rattle.tracer.specs.declared.Step.{Step}
 use Rattle.tracer.specs.Inner.{node_of}
 use Rattle.laws.specs.Inner.{Room, Wrote}
 

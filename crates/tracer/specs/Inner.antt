@@ -8,15 +8,24 @@ use Rattle.cutting.specs.Dissection.{rest, crossed, part_width, part_height}
 use Rattle.cutting.specs.Tree.{Tree, Valid, earning}
 use Rattle.fields.specs.Format.{node_length, letter_p, letter_s}
 use Rattle.cells.specs.Inner.{fits}
+use Rattle.board.specs.declared.Board.{Board}
 use Rattle.board.specs.Inner.{Rows, rows_on, width_on, height_on}
 use Rattle.nodes.specs.Encoding.{letter_of, node, encode}
-use Rattle.tracer.specs.declared.part.Wanted.{Wanted}
-use Rattle.tracer.specs.declared.part.Part.{Part}
-use Rattle.tracer.specs.declared.part.Step.{Step}
+use Rattle.tracer.specs.declared.Wanted.{Wanted}
+use Rattle.tracer.specs.declared.Step.{Step}
+
+-- A part of the sheet that is traced.
+pub record WantedPart : Type 0 where
+  pub width : ℕ
+  pub height : ℕ
+  pub wanted : Wanted
+
+abbrev pub part_of : ℕ → ℕ → Wanted → WantedPart
+part_of x y wanted = record { width = x; height = y; wanted = wanted }
 
 -- x by y, traced by the rules.
-abbrev pub whole : ℕ → ℕ → Part
-whole x y = record { width = x; height = y; wanted = Wanted.Free }
+abbrev pub whole : ℕ → ℕ → WantedPart
+whole x y = part_of x y Wanted.Free
 
 -- The two parts of a line, of which this is wanted: a piece is cut out of the near one, and the far one is waste then.
 abbrev pub beyond : Wanted → Wanted
@@ -24,10 +33,10 @@ beyond Wanted.Free = Wanted.Free
 beyond (Wanted.Piece k) = Wanted.Waste
 beyond Wanted.Waste = Wanted.Waste
 
-abbrev pub near_wanted : Bool → ℕ → Wanted → Part → Part
-near_wanted tall c wanted p = record { width = part_width tall p.width c; height = part_height tall p.height c; wanted = wanted }
+abbrev pub near_wanted : Bool → ℕ → Wanted → WantedPart → WantedPart
+near_wanted tall c wanted p = part_of (part_width tall p.width c) (part_height tall p.height c) wanted
 
-abbrev pub far_wanted : Bool → ℕ → Wanted → Part → Part
+abbrev pub far_wanted : Bool → ℕ → Wanted → WantedPart → WantedPart
 far_wanted tall c wanted p = near_wanted tall (rest (crossed tall p.width p.height) c) (beyond wanted) p
 
 -- The rules over the rows that the code reads.
@@ -103,7 +112,7 @@ ruled rows cell x y number =
     None))))
 
 -- The next step in a part.
-unfoldable pub step_in : Rows → (ℕ → ℕ → ℕ) → Part → Option Step
+unfoldable pub step_in : Rows → (ℕ → ℕ → ℕ) → WantedPart → Option Step
 step_in rows cell p =
     elim p.wanted [
       | Wanted.Free ↦ ruled rows cell p.width p.height (cell p.width p.height)
@@ -114,32 +123,32 @@ step_in rows cell p =
 -- The tree for x by y as it computes, and its length in the file.
 
 -- The tree for a step, where `part` is the tree of a part. It is scrap where rule 6.6 strikes.
-unfoldable pub tree_by : (Part → Tree) → Part → Option Step → Tree
+unfoldable pub tree_by : (WantedPart → Tree) → WantedPart → Option Step → Tree
 tree_by part p None = Tree.scrap_s
 tree_by part p (Some Step.Scrap) = Tree.scrap_s
 tree_by part p (Some (Step.Piece k)) = Tree.piece_p k
 tree_by part p (Some (Step.Line tall c wanted)) = Tree.line tall c (part (near_wanted tall c wanted p)) (part (far_wanted tall c wanted p))
 
 -- Does rule 6.6 strike nowhere, where `part` says it of a part?
-unfoldable pub traces_by : (Part → Bool) → Part → Option Step → Bool
+unfoldable pub traces_by : (WantedPart → Bool) → WantedPart → Option Step → Bool
 traces_by part p None = false
 traces_by part p (Some Step.Scrap) = true
 traces_by part p (Some (Step.Piece k)) = true
 traces_by part p (Some (Step.Line tall c wanted)) = part (near_wanted tall c wanted p) && part (far_wanted tall c wanted p)
 
 -- Each line shortens a side.
-abbrev pub sides_of : Part → ℕ
+abbrev pub sides_of : WantedPart → ℕ
 sides_of p = p.width + p.height
 
 -- The tree by the rules, and whether rule 6.6 strikes nowhere in it. `traced_own` and `traces_own` are their equations.
-unfoldable pub traced : Rows → (ℕ → ℕ → ℕ) → Part → Tree
+unfoldable pub traced : Rows → (ℕ → ℕ → ℕ) → WantedPart → Tree
 traced rows cell = deep sides_of Tree.scrap_s (λ part p. tree_by part p (step_in rows cell p))
 
-unfoldable pub traces : Rows → (ℕ → ℕ → ℕ) → Part → Bool
+unfoldable pub traces : Rows → (ℕ → ℕ → ℕ) → WantedPart → Bool
 traces rows cell = deep sides_of false (λ part p. traces_by part p (step_in rows cell p))
 
 -- The number of bytes of the tree's nodes; none where rule 6.6 strikes.
-unfoldable pub measured : Rows → (ℕ → ℕ → ℕ) → Part → Option ℕ
+unfoldable pub measured : Rows → (ℕ → ℕ → ℕ) → WantedPart → Option ℕ
 measured rows cell p = cond (traces rows cell p) (Some (length (encode (traced rows cell p)))) None
 
 -- The node of a step.
@@ -163,7 +172,7 @@ abbrev pub Sized : Rows → Type 0
 Sized rows = (k : ℕ) → k < rows.count → (1 ≤ rows.width k) × (1 ≤ rows.height k)
 
 -- What the tracing of a part may rely on, with this board: it lies on the sheet.
-pub record Traceable (board : List ℕ) (p : Part) : Type 0 where
+pub record Traceable (board : Board) (p : WantedPart) : Type 0 where
   pub wanted : Among (rows_on board) p.wanted
   pub inside : Inside p.width p.height (width_on board) (height_on board)
 

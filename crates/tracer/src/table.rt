@@ -1,8 +1,7 @@
 // What a tree is read from.
 ghost use Rattle.cells.specs.Inner.{Holds};
-ghost use Rattle.board.specs.Inner.{rows_on, width_on, height_on, count_on, entries};
+ghost use Rattle.board.specs.Inner.{rows_on, width_on, height_on};
 ghost use Rattle.tracer.specs.Inner.{Sized};
-ghost use Rattle.std.specs.Prelude.{◌≤◌};
 
 use board::Board;
 
@@ -11,7 +10,6 @@ use board::Board;
 pub struct Table<'a> {
     pub board: &'a Board,
     pub cells: &'a [u32],
-    ghost few: { count_on board.now ≤ entries },
     ghost sized: { Sized (rows_on board.now) },
     ghost holds: { Holds (width_on board.now) (height_on board.now) cells.now },
 }

@@ -2,26 +2,39 @@
 ghost use Rattle.std.specs.Prelude.{◌≡◌, ◌+◌, ◌≤◌, length};
 ghost use Rattle.fields.specs.Format.{node_length};
 ghost use Rattle.nodes.specs.Encoding.{letter_of, node, encode};
-ghost use Rattle.tracer.specs.Inner.{node_of, Traceable, traced, measured};
+ghost use Rattle.tracer.specs.Inner.{part_of, node_of, Traceable, traced, measured};
 ghost use Rattle.tracer.specs.Table.{rows_in, cell_in};
 ghost use Rattle.laws.specs.Inner.{Room, Wrote};
 
 use crate::next::next_step;
-use crate::part::{Part, Step};
 use crate::table::Table;
+use crate::{Step, Wanted};
+use board::line::{crossed, part_height, part_width, rest};
+use fields::Field;
 use fields::format::{HORIZONTAL, NODE_LENGTH, PIECE, SCRAP, VERTICAL};
-use fields::put2;
 
 // The number of bytes that the nodes of a part's tree take; none where rule 6.6 strikes in it.
-pub fn measure(table: &Table, part: Part) -> Option<usize>
-    requires { Traceable table.now.board.now part }
-    ensures { result ≡ measured (rows_in table.now) (cell_in table.now) part }
+pub fn measure(table: &Table, width: usize, height: usize, wanted: Wanted) -> Option<usize>
+    requires { Traceable table.now.board.now (part_of width height wanted) }
+    ensures { result ≡ measured (rows_in table.now) (cell_in table.now) (part_of width height wanted) }
 {
-    let Step::Line(tall, at, near) = next_step(table, part)? else {
+    let Step::Line(tall, at, near) = next_step(table, width, height, wanted)? else {
         return Some(NODE_LENGTH);
     };
-    let first = measure(table, part.near(tall, at, near))?;
-    let second = measure(table, part.far(tall, at, near))?;
+    let c = usize::from(at);
+    let r = rest(crossed(tall, width, height), c);
+    let first = measure(
+        table,
+        part_width(tall, width, c),
+        part_height(tall, height, c),
+        near,
+    )?;
+    let second = measure(
+        table,
+        part_width(tall, width, r),
+        part_height(tall, height, r),
+        near.beyond(),
+    )?;
     Some(NODE_LENGTH + first + second)
 }
 
@@ -31,7 +44,7 @@ fn write_node(o: &mut [u8], at: usize, letter: u8, number: u16) -> usize
     ensures { Wrote o.old at (node letter number) result o.new }
 {
     o[at] = letter;
-    put2(o, at + 1, number);
+    number.put(o, at + 1);
     at + NODE_LENGTH
 }
 
@@ -56,16 +69,39 @@ fn write_step(o: &mut [u8], at: usize, step: Step) -> usize
 }
 
 // Writes the nodes of a part's tree at a place, and answers the place after them. Where rule 6.6 strikes nobody writes; scrap stands for it here.
-pub fn write(table: &Table, part: Part, o: &mut [u8], at: usize) -> usize
-    requires traceable { Traceable table.now.board.now part }
-    requires room { Room o.old at (encode (traced (rows_in table.now) (cell_in table.now) part)) }
-    ensures { Wrote o.old at (encode (traced (rows_in table.now) (cell_in table.now) part)) result o.new }
+pub fn write(
+    table: &Table,
+    width: usize,
+    height: usize,
+    wanted: Wanted,
+    o: &mut [u8],
+    at: usize,
+) -> usize
+    requires traceable { Traceable table.now.board.now (part_of width height wanted) }
+    requires room { Room o.old at (encode (traced (rows_in table.now) (cell_in table.now) (part_of width height wanted))) }
+    ensures { Wrote o.old at (encode (traced (rows_in table.now) (cell_in table.now) (part_of width height wanted))) result o.new }
 {
-    let next = next_step(table, part).unwrap_or(Step::Scrap);
+    let next = next_step(table, width, height, wanted).unwrap_or(Step::Scrap);
     let after = write_step(o, at, next);
     let Step::Line(tall, place, near) = next else {
         return after;
     };
-    let middle = write(table, part.near(tall, place, near), o, after);
-    write(table, part.far(tall, place, near), o, middle)
+    let c = usize::from(place);
+    let r = rest(crossed(tall, width, height), c);
+    let middle = write(
+        table,
+        part_width(tall, width, c),
+        part_height(tall, height, c),
+        near,
+        o,
+        after,
+    );
+    write(
+        table,
+        part_width(tall, width, r),
+        part_height(tall, height, r),
+        near.beyond(),
+        o,
+        middle,
+    )
 }

@@ -5,4 +5,4 @@ use Rattle.tracer.proofs.search.exact_piece.Goals as goal
 
 pub returns : goal.returns
 unfolding rows_on
-returns c = c.first_piece.ensures (is_size (rows_on c.args.table.now.board.now) c.args.part.width c.args.part.height) (λ k b l p. search rules)
+returns c = c.first_piece.ensures (is_size (rows_on c.args.table.now.board.now) c.args.width c.args.height) (λ k b l p. search rules)

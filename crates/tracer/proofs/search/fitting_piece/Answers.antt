@@ -6,4 +6,4 @@ use Rattle.tracer.proofs.search.fitting_piece.Goals as goal
 
 pub returns : goal.returns
 unfolding rows_on fits
-returns c = c.first_piece.ensures (fits_in (rows_on c.args.table.now.board.now) c.args.part.width c.args.part.height) (λ k b l p. search rules)
+returns c = c.first_piece.ensures (fits_in (rows_on c.args.table.now.board.now) c.args.width c.args.height) (λ k b l p. search rules)

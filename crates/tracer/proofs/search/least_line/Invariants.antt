@@ -8,4 +8,4 @@ use Rattle.tracer.proofs.search.least_line.Given as goal
 abbrev pub invariant-loop-c : goal.invariant-loop-c
 invariant-loop-c l =
     (j : ℕ) → 1 ≤ j → j < l.c
-    → adds_to (rows_on l.table.board.now) (cell_of (width_on l.table.board.now) l.table.cells.now) l.tall l.number l.part.width l.part.height j ≡ false
+    → adds_to (rows_on l.table.board.now) (cell_of (width_on l.table.board.now) l.table.cells.now) l.tall l.number l.width l.height j ≡ false

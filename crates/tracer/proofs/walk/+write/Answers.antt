@@ -1,5 +1,5 @@
 use Rattle.std.proofs.Common.{sym, ap, ◌∙◌, arith, unwrap_or}
-use Rattle.tracer.specs.declared.part.Step.{Step}
+use Rattle.tracer.specs.declared.Step.{Step}
 use Rattle.laws.proofs.Wrote.{wrote_as}
 use Rattle.tracer.proofs.Traced.{nodes_leaf}
 use Rattle.tracer.proofs.Wrote.{node_room}
@@ -17,21 +17,35 @@ returns-in_default t c =
 pub write-middle-requires : goal.write-middle-requires
 write-middle-requires t c =
     let step = line_or_scrap c.next_step.ensures c.unwrap_or-next.ensures c.in-Line.is in
-    near_write c.requires.traceable _ step c.in-Line.is c.near.ensures c.requires.room c.write_step-after.ensures c.decreases
+    near_write c.requires.traceable _ step c.in-Line.is (record { place = c.from-c.ensures; width = c.part_width.ensures; height = c.part_height.ensures }) c.requires.room c.write_step-after.ensures c.decreases
 
-pub far-requires : goal.far-requires
-far-requires t c =
+pub rest-r-requires : goal.rest-r-requires
+rest-r-requires t c =
     let step = line_or_scrap c.next_step.ensures c.unwrap_or-next.ensures c.in-Line.is in
-    omega (arith, line_inside c.requires.traceable _ step)
+    omega (arith, line_inside c.requires.traceable _ step, c.from-c.ensures, c.crossed.ensures)
 
 pub write-requires : goal.write-requires
 write-requires t c =
     let step = line_or_scrap c.next_step.ensures c.unwrap_or-next.ensures c.in-Line.is in
-    far_write c.requires.traceable _ step c.in-Line.is c.near.ensures c.requires.room c.write_step-after.ensures c.far.ensures c.write-middle.ensures
+    far_write c.requires.traceable _ step c.in-Line.is (record { place = c.from-c.ensures; width = c.part_width.ensures; height = c.part_height.ensures }) c.requires.room c.write_step-after.ensures (record {
+      place = c.from-c.ensures;
+      across = c.crossed.ensures;
+      leaves = c.rest-r.ensures;
+      width = c.part_width-2.ensures;
+      height = c.part_height-2.ensures;
+      is = c.beyond.ensures;
+    }) c.write-middle.ensures
     c.decreases
 
 pub returns : goal.returns
 returns t c =
     let step = line_or_scrap c.next_step.ensures c.unwrap_or-next.ensures c.in-Line.is in
-    line_written c.requires.traceable _ step c.in-Line.is c.near.ensures c.requires.room c.write_step-after.ensures c.far.ensures c.write-middle.ensures
+    line_written c.requires.traceable _ step c.in-Line.is (record { place = c.from-c.ensures; width = c.part_width.ensures; height = c.part_height.ensures }) c.requires.room c.write_step-after.ensures (record {
+      place = c.from-c.ensures;
+      across = c.crossed.ensures;
+      leaves = c.rest-r.ensures;
+      width = c.part_width-2.ensures;
+      height = c.part_height-2.ensures;
+      is = c.beyond.ensures;
+    }) c.write-middle.ensures
     c.write.ensures

@@ -18,7 +18,7 @@ pub fn measure(table: &Table, width: usize, height: usize, wanted: Wanted) -> Op
     requires { Traceable table.now.board.now (part_of width height wanted) }
     ensures { result ≡ measured (rows_in table.now) (cell_in table.now) (part_of width height wanted) }
 {
-    let Step::Line(tall, at, near) = next_step(table, width, height, wanted)? else {
+    let Step::Line(at, near, tall) = next_step(table, width, height, wanted)? else {
         return Some(NODE_LENGTH);
     };
     let c = usize::from(at);
@@ -64,7 +64,7 @@ fn write_step(o: &mut [u8], at: usize, step: Step) -> usize
     match step {
         Step::Scrap => write_node(o, at, SCRAP, 0),
         Step::Piece(number) => write_node(o, at, PIECE, number),
-        Step::Line(tall, c, _) => write_node(o, at, letter_of(tall), c),
+        Step::Line(c, _, tall) => write_node(o, at, letter_of(tall), c),
     }
 }
 
@@ -83,7 +83,7 @@ pub fn write(
 {
     let next = next_step(table, width, height, wanted).unwrap_or(Step::Scrap);
     let after = write_step(o, at, next);
-    let Step::Line(tall, place, near) = next else {
+    let Step::Line(place, near, tall) = next else {
         return after;
     };
     let c = usize::from(place);

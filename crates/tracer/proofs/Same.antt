@@ -58,7 +58,8 @@ module _ (rows : Rows) (cell other : ℕ → ℕ → ℕ) where
     where
       go : (p : WantedPart) → ((q : WantedPart) → sides_of q < sides_of p → Agree q) → 1 ≤ p.width → 1 ≤ p.height → Same p.width p.height → (step : Option Step)
           → step_in rows other p ≡ step
-          → (tree_by (traced rows cell) p step ≡ tree_by (traced rows other) p step) × (traces_by (traces rows cell) p step ≡ traces_by (traces rows other) p step)
+          → (tree_by (traced rows cell) p step ≡ tree_by (traced rows other) p step)
+          × (traces_by (traces rows cell) p step ≡ traces_by (traces rows other) p step)
       go p below h k same None e = (refl, refl)
       go p below h k same (Some Step.Scrap) e = (refl, refl)
       go p below h k same (Some (Step.Piece n)) e = (refl, refl)

@@ -209,7 +209,8 @@ module _ (rows : Rows) (cell : ℕ → ℕ → ℕ) (p : WantedPart) where
   unfolding tree_by encode node_of
   nodes_leaf = go (step_in rows cell p) refl
     where
-      go : (found : Option Step) → step_in rows cell p ≡ found → (step : Step) → NoLine step → unwrap_or found Step.Scrap ≡ step → encode (traced rows cell p) ≡ node_of step
+      go : (found : Option Step) → step_in rows cell p ≡ found → (step : Step) → NoLine step → unwrap_or found Step.Scrap ≡ step
+          → encode (traced rows cell p) ≡ node_of step
       go None e step l f = ap encode (traced_own rows cell p e) ∙ ap node_of f
       go (Some Step.Scrap) e step l f = ap encode (traced_own rows cell p e) ∙ ap node_of f
       go (Some (Step.Piece k)) e step l f = ap encode (traced_own rows cell p e) ∙ ap node_of f
@@ -262,7 +263,8 @@ module _ (rows : Rows) (cell : ℕ → ℕ → ℕ) where
       by_size sides_of (λ p. Bounded p (traced rows cell p))
       (λ p below. subst (Bounded p) (sym (traced_own rows cell p refl)) (grown p below (step_in rows cell p) (any_steps rows cell p)))
     where
-      grown : (p : WantedPart) → ((q : WantedPart) → sides_of q < sides_of p → Bounded q (traced rows cell q)) → (step : Option Step) → Steps (λ _. Unit {0}) p step
+      grown : (p : WantedPart) → ((q : WantedPart) → sides_of q < sides_of p → Bounded q (traced rows cell q)) → (step : Option Step)
+          → Steps (λ _. Unit {0}) p step
           → Bounded p (tree_by (traced rows cell) p step)
       grown p below None s h k = unit _ _ _ h k scrap-length
       grown p below (Some Step.Scrap) s h k = unit _ _ _ h k scrap-length

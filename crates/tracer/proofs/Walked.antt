@@ -32,7 +32,8 @@ line_or_scrap {s = None} e f g = absurd (scrap-line (sym f ∙ g))
 line_or_scrap {s = Some u} e f g = some_line e (ap Some (sym f)) g
 
 -- No part measures more than the whole table may.
-pub part_short : {board : Board} {t : List ℕ} {p : WantedPart} (cell : ℕ → ℕ → ℕ) {k : Option ℕ} {n : ℕ} → Traceable board p → Holds (width_on board) (height_on board) t
+pub part_short : {board : Board} {t : List ℕ} {p : WantedPart} (cell : ℕ → ℕ → ℕ) {k : Option ℕ} {n : ℕ} → Traceable board p
+    → Holds (width_on board) (height_on board) t
     → k ≡ measured (rows_on board) cell p → k ≡ Some n → n ≤ length_most
 part_short {board} {p = p} cell r h e f =
     let i = r.inside in
@@ -89,7 +90,8 @@ module _ {board : Board} {p : WantedPart} (ready : Traceable board p) (cell : �
 
   -- What the line measures by its parts.
   pub near_measures : {k w h : ℕ} → NearPart p tall c k w h
-      → MeasuredLine (measured (rows_on board) cell (part_of w h wanted)) (measured (rows_on board) cell (far_wanted tall c wanted p)) (measured (rows_on board) cell p)
+      → MeasuredLine (measured (rows_on board) cell (part_of w h wanted)) (measured (rows_on board) cell (far_wanted tall c wanted p))
+      (measured (rows_on board) cell p)
   near_measures near = rw (near_is near) (measured_line (rows_on board) cell p step)
 
   pub parts_measure : {k w h : ℕ} → NearPart p tall c k w h → {side r u v : ℕ} {b : Wanted} → FarPart p tall c wanted k side r u v b

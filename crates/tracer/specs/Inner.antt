@@ -7,12 +7,14 @@ use Rattle.cutting.specs.Limits.{side_max}
 use Rattle.cutting.specs.Dissection.{rest, crossed, part_width, part_height}
 use Rattle.cutting.specs.Tree.{Tree, Valid, earning}
 use Rattle.fields.specs.Format.{node_length, letter_p, letter_s}
+use Rattle.cells.specs.Cells.{cell_of}
 use Rattle.cells.specs.Inner.{fits}
 use Rattle.board.specs.declared.Board.{Board}
 use Rattle.board.specs.Inner.{Rows, rows_on, width_on, height_on}
 use Rattle.nodes.specs.Encoding.{letter_of, node, encode}
 use Rattle.tracer.specs.declared.Wanted.{Wanted}
 use Rattle.tracer.specs.declared.Step.{Step}
+use Rattle.tracer.specs.declared.table.Table.{Table}
 
 -- A part of the sheet that is traced.
 pub record WantedPart : Type 0 where
@@ -167,7 +169,7 @@ Among rows Wanted.Free = Unit {0}
 Among rows (Wanted.Piece k) = (1 ≤ k) × (k ≤ rows.count)
 Among rows Wanted.Waste = Unit {0}
 
--- Every piece is at least 1 by 1, or nothing would shrink.
+-- Every piece is at least 1 by 1, or nothing would shrink: what a table's field `sized` says.
 abbrev pub Sized : Rows → Type 0
 Sized rows = (k : ℕ) → k < rows.count → (1 ≤ rows.width k) × (1 ≤ rows.height k)
 
@@ -180,3 +182,14 @@ pub record Traceable (board : Board) (p : WantedPart) : Type 0 where
 pub record Dissects (pieces : List Piece) (t : Tree) (x y number : ℕ) : Type 0 where
   pub valid : Valid pieces t x y
   pub earns : earning pieces t ≡ number
+
+-- What the code reads a tree from, as its clauses name it.
+abbrev pub rows_in : Table → Rows
+rows_in t = rows_on t.board.now
+
+abbrev pub cell_in : Table → ℕ → ℕ → ℕ
+cell_in t = cell_of (width_on t.board.now) t.cells.now
+
+-- The rectangle lies on the sheet.
+abbrev pub OnSheet : Table → ℕ → ℕ → Type 0
+OnSheet t x y = Inside x y (width_on t.board.now) (height_on t.board.now)

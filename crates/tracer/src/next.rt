@@ -1,7 +1,6 @@
 // The next step in a part, by what is wanted of it.
 ghost use Rattle.std.specs.Prelude.{◌≡◌, ◌≤◌};
-ghost use Rattle.tracer.specs.Inner.{part_of, cut_out, ruled, Traceable, step_in};
-ghost use Rattle.tracer.specs.Table.{rows_in, cell_in, OnSheet};
+ghost use Rattle.tracer.specs.Inner.{part_of, cut_out, ruled, Traceable, step_in, rows_in, cell_in, OnSheet};
 
 use crate::search::{exact_piece, fitting_piece, least_line, number_of};
 use crate::table::Table;

@@ -12,12 +12,15 @@ returns-in_default t c = measured_leaf _ _ _ _ c.in_default.not-Line (sym c.next
 pub measure-requires : goal.measure-requires
 measure-requires t c =
     let step = some_line c.next_step.ensures c.in_ok-at.was c.in-Line.is in
-    near_call c.requires _ step (record { place = c.from-c.ensures; width = c.part_width.ensures; height = c.part_height.ensures }) c.decreases
+    near_call c.requires _ step
+    (record { place = c.from-c.ensures; width = c.part_width.ensures; height = c.part_height.ensures })
+    c.decreases
 
 pub returns-in_err-first : goal.returns-in_err-first
 returns-in_err-first t c =
     let step = some_line c.next_step.ensures c.in_ok-at.was c.in-Line.is in
-    c.from_residual-in_err-first.ensures ∙ (near_measures c.requires _ step (record { place = c.from-c.ensures; width = c.part_width.ensures; height = c.part_height.ensures })).no_near (sym c.measure.ensures ∙ c.in_err-first.was)
+    c.from_residual-in_err-first.ensures ∙ (near_measures c.requires _ step
+    (record { place = c.from-c.ensures; width = c.part_width.ensures; height = c.part_height.ensures })).no_near (sym c.measure.ensures ∙ c.in_err-first.was)
 
 pub rest-r-requires : goal.rest-r-requires
 rest-r-requires t c =
@@ -40,7 +43,8 @@ pub returns-in_err-second : goal.returns-in_err-second
 returns-in_err-second t c =
     let step = some_line c.next_step.ensures c.in_ok-at.was c.in-Line.is in
     c.from_residual-in_err-second.ensures
-    ∙ (parts_measure c.requires _ step (record { place = c.from-c.ensures; width = c.part_width.ensures; height = c.part_height.ensures })
+    ∙ (parts_measure c.requires _ step
+    (record { place = c.from-c.ensures; width = c.part_width.ensures; height = c.part_height.ensures })
     (record {
       place = c.from-c.ensures;
       across = c.crossed.ensures;
@@ -53,13 +57,17 @@ returns-in_err-second t c =
 pub overflow_add-result : goal.overflow_add-result
 overflow_add-result t c =
     let step = some_line c.next_step.ensures c.in_ok-at.was c.in-Line.is in
-    let near = part_short _ (near_call c.requires _ step (record { place = c.from-c.ensures; width = c.part_width.ensures; height = c.part_height.ensures }) c.decreases).1 c.args.table.now.holds c.measure.ensures c.in_ok-first.was in
+    let near = part_short _ (near_call c.requires _ step
+    (record { place = c.from-c.ensures; width = c.part_width.ensures; height = c.part_height.ensures })
+    c.decreases).1 c.args.table.now.holds c.measure.ensures c.in_ok-first.was in
     omega (arith, near)
 
 pub overflow_add-result-2 : goal.overflow_add-result-2
 overflow_add-result-2 t c =
     let step = some_line c.next_step.ensures c.in_ok-at.was c.in-Line.is in
-    let near = part_short _ (near_call c.requires _ step (record { place = c.from-c.ensures; width = c.part_width.ensures; height = c.part_height.ensures }) c.decreases).1 c.args.table.now.holds c.measure.ensures c.in_ok-first.was in
+    let near = part_short _ (near_call c.requires _ step
+    (record { place = c.from-c.ensures; width = c.part_width.ensures; height = c.part_height.ensures })
+    c.decreases).1 c.args.table.now.holds c.measure.ensures c.in_ok-first.was in
     let far = part_short _ (far_call c.requires _ step (record {
       place = c.from-c.ensures;
       across = c.crossed.ensures;
@@ -73,7 +81,8 @@ overflow_add-result-2 t c =
 pub returns : goal.returns
 returns t c =
     let step = some_line c.next_step.ensures c.in_ok-at.was c.in-Line.is in
-    (parts_measure c.requires _ step (record { place = c.from-c.ensures; width = c.part_width.ensures; height = c.part_height.ensures })
+    (parts_measure c.requires _ step
+    (record { place = c.from-c.ensures; width = c.part_width.ensures; height = c.part_height.ensures })
     (record {
       place = c.from-c.ensures;
       across = c.crossed.ensures;

@@ -28,13 +28,13 @@ use Rattle.fields.specs.Format.{node_length, trailer_length, file_most}
 use Rattle.desk.specs.Refusals.{alien_table, short_buffer}
 use Rattle.desk.specs.Inner.{accepted}
 use Rattle.desk.proofs.Answers.{given, left-as-it-was}
-use Rattle.plan.specs.declared.Planned.TheVariants.{Written, Refused}
 use Rattle.plan.specs.File.{sheet_of}
 use Rattle.plan.specs.Inner.{tree_for, traces_for, plan_file, box_rows, plan_tests, box_refused, file_refused, file_number, plan_refused, planned_with, Ready}
 use Rattle.plan.specs.Refusals.{Readable, plan_refusals}
 use Rattle.plan.proofs.Tracing.{on_table, measured_as, tree_by_rules, tree_dissects}
 use Rattle.plan.proofs.Writing.{sheet_pieces, file-length}
 use Rattle.plan.proofs.Enough.{plan_enough_lem}
+use Rattle.plan.specs.Planning.{Written, Refused}
 
 pub refused_answer : {r refusal : ℕ} {o : List ℕ} (bytes value : ℕ) (file : List ℕ) → r ≡ refusal → (r ≡ 0 → ⊥)
     → (Refused r ≡ planned_with refusal bytes value) × (o ≡ accepted refusal file o)

@@ -10,10 +10,15 @@ use Rattle.cells.specs.Inner.{Holds, fits, emptied, emptied_where}
 use Rattle.cells.proofs.Emptied.{emptied-length, emptied_twice}
 use Rattle.job.specs.declared.Piece.{Piece as Record}
 use Rattle.job.specs.declared.Job.{Job}
-use Rattle.desk.specs.declared.Changed.{Changed}
-use Rattle.desk.specs.declared.Asked.TheVariants.{Answered, Refused}
+use Rattle.std.specs.Prelude.{Result, Ok, Err, IsErrAnd}
+use Rattle.refusals.specs.declared.Refusal.{Refusal}
+use Rattle.refusals.specs.Refusals.{number}
+use Rattle.refusals.proofs.Numbers.{never_zero}
+use Rattle.desk.specs.declared.question.Answer.{Answer}
+use Rattle.desk.specs.Changing.{Changed}
+use Rattle.desk.specs.Asking.{Answered, Refused}
 use Rattle.desk.specs.Refusals.{Usable}
-use Rattle.desk.specs.Inner.{accepted, changed, emptied_size, asked_with}
+use Rattle.desk.specs.Inner.{accepted, changed, changed_from, emptied_size, asked_with, asked_from}
 use Rattle.desk.proofs.Exactly.{usable_holds}
 
 pub given {ℓ} : {A : Type ℓ} {r refusal : ℕ} (after left : A) → r ≡ refusal → r ≡ 0 → after ≡ accepted refusal after left
@@ -30,6 +35,12 @@ pub change_refused : {r refusal : ℕ} {left job : Job} {t : List ℕ} (after : 
     → (◌≡◌ {A = Changed} (record { refusal = r; job = job }) (changed refusal after left)) × (t ≡ accepted refusal cells t)
 change_refused {left = left} {t = t} after cells e h f =
     (λ i. record { refusal = e i; job = (f ∙ left-as-it-was after left e h) i }, left-as-it-was cells t e h)
+
+-- So where `?` hands a refusal on.
+pub change_left : (r : Result Job Refusal) (refusal : Refusal) (after left : Job) (cells t : List ℕ) {n : ℕ} → IsErrAnd r (λ e. e ≡ refusal)
+    → number refusal ≡ n → (changed_from left r ≡ changed n after left) × (t ≡ accepted n cells t)
+change_left (Ok job) refusal after left cells t e f = absurd e
+change_left (Err other) refusal after left cells t e f = change_refused after cells (ap number e ∙ f) (never_zero other) refl
 
 -- An accepted change: the job after it, and the cells that it empties.
 pub change_given : {r refusal : ℕ} {after job : Job} {t' cells : List ℕ} (left : Job) (t : List ℕ) → r ≡ refusal → r ≡ 0 → job ≡ after → t' ≡ cells
@@ -54,6 +65,12 @@ pub asked_refused : {r refusal : ℕ} {t : List ℕ} (value worked : ℕ) (cells
     → (Refused r ≡ asked_with refusal value worked) × (t ≡ accepted refusal cells t)
 asked_refused {r = zero} value worked cells e h = absurd (h refl)
 asked_refused {r = suc k} {t = t} value worked cells e h = (ap (λ (n : ℕ). asked_with n value worked) e, left-as-it-was cells t e h)
+
+-- So where `?` hands a refusal on.
+pub asked_left : (r : Result Answer Refusal) (refusal : Refusal) (value worked : ℕ) (cells t : List ℕ) {n : ℕ} → IsErrAnd r (λ e. e ≡ refusal)
+    → number refusal ≡ n → (asked_from r ≡ asked_with n value worked) × (t ≡ accepted n cells t)
+asked_left (Ok answer) refusal value worked cells t e f = absurd e
+asked_left (Err other) refusal value worked cells t e f = asked_refused value worked cells (ap number e ∙ f) (never_zero other)
 
 pub asked_given : {r refusal value worked v n : ℕ} {t' cells : List ℕ} (t : List ℕ) → r ≡ refusal → r ≡ 0 → v ≡ value → n ≡ worked → t' ≡ cells
     → (Answered v n ≡ asked_with refusal value worked) × (t' ≡ accepted refusal cells t)

@@ -24,7 +24,8 @@ use Rattle.job.specs.declared.Piece.{Piece as Record}
 use Rattle.job.specs.declared.Job.{Job}
 use Rattle.job.specs.Inner.{within, job_in_range}
 use Rattle.job.proofs.Range.{within_says, piece_says, job_says}
-use Rattle.desk.specs.Refusals.{bad_job, short_table, cells_of, Usable, IsNumber, open_refusals, add_refusals, correct_refusals, remove_refusals, ask_refusals, OpenRefusal, AddRefusal, RemoveRefusal, CorrectRefusal, AskRefusal}
+use Rattle.refusals.specs.Refusals.{bad_job, short_table}
+use Rattle.desk.specs.Refusals.{cells_of, Usable, IsNumber, open_refusals, add_refusals, correct_refusals, remove_refusals, ask_refusals, OpenRefusal, AddRefusal, RemoveRefusal, CorrectRefusal, AskRefusal}
 use Rattle.desk.specs.Inner.{job_refusals, job_tests, job_refused, open_tests, open_refused, add_tests, add_refused, remove_tests, remove_refused, correct_tests, correct_refused, ask_tests, ask_refused}
 
 pub inside_says : (x y a b : ℕ) → Says (within x a && within y b) (Inside x y a b)

@@ -7,12 +7,20 @@ ghost use Rattle.cells.specs.Cells.{cell_of};
 ghost use Rattle.cells.specs.Box.{is_empty, count_in_box};
 ghost use Rattle.fill.specs.Filled.{Bounded};
 ghost use Rattle.desk.specs.Refusals.{Usable};
-ghost use Rattle.desk.specs.Inner.{filled_for, AskPromise};
+ghost use Rattle.desk.specs.Inner.{filled_for, asked_from, AskPromise};
 
-use crate::{Asked, refusal};
+use crate::refusal;
 use board::{Board, PLACES};
-use fields::cast::wide;
 use job::Job;
+use refusals::Refusal;
+
+// The answer of ask.
+#[derive(Clone, Copy, Debug, PartialEq, Eq)]
+pub struct Answer {
+    pub value: u32,
+    // The cells that were worked out for it.
+    pub worked: u32,
+}
 
 // Lays the board of a job out. A call of its own, so that the stack of the job's copy is free again before the box is filled (decision 42).
 fn lay_out(board: &mut Board, job: Job)
@@ -31,7 +39,7 @@ fn fill_for(job: Job, t: &mut [u32], x: usize, y: usize) -> u32
     ensures value { result ≡ count_in_box x y (is_empty job.width t.old) }
     ensures t_after { t.new ≡ filled_for job t.old x y }
 {
-    if !cells::has_empty(t, wide(job.width), x, y) {
+    if !cells::has_empty(t, usize::from(job.width), x, y) {
         return 0;
     }
     let mut board: Board = [0; PLACES];
@@ -40,14 +48,11 @@ fn fill_for(job: Job, t: &mut [u32], x: usize, y: usize) -> u32
 }
 
 // The best value of x by y, and the number of cells that had to be worked out for it.
-pub fn ask(job: Job, t: &mut [u32], x: u32, y: u32) -> Asked
-    ensures { AskPromise job t.old x y result t.new }
+pub fn ask(job: Job, t: &mut [u32], x: u32, y: u32) -> Result<Answer, Refusal>
+    ensures { AskPromise job t.old x y (asked_from result) t.new }
 {
-    let refused = refusal::ask_refused(job, t, x, y);
-    if refused != 0 {
-        return Asked::Refused(refused);
-    }
+    refusal::of_ask(job, t, x, y)?;
     let worked = fill_for(job, t, x as usize, y as usize);
-    let value = cells::cell(t, wide(job.width), x as usize, y as usize);
-    Asked::Answered(value, worked)
+    let value = cells::cell(t, usize::from(job.width), x as usize, y as usize);
+    Ok(Answer { value, worked })
 }

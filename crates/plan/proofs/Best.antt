@@ -18,7 +18,8 @@ use Rattle.job.specs.declared.Job.{Job}
 use Rattle.job.specs.Job.{pieces_of, lay_of}
 use Rattle.tracer.specs.Inner.{Dissects}
 use Rattle.tracer.proofs.Best.{best_traced}
-use Rattle.desk.specs.Refusals.{not_inside, not_asked, alien_table, Usable}
+use Rattle.refusals.specs.Refusals.{not_inside, not_asked, alien_table}
+use Rattle.desk.specs.Refusals.{Usable}
 use Rattle.plan.specs.File.{TreeFor}
 use Rattle.plan.specs.Inner.{tree_for, traces_for, plan_file, planned_with, planned, PlanPromise, HoldsBest}
 use Rattle.plan.specs.Refusals.{Readable, plan_refusals, PlanRefusal}

@@ -11,7 +11,8 @@ use Rattle.cutting.specs.Piece.{Inside}
 use Rattle.cells.specs.Box.{is_empty}
 use Rattle.cells.specs.Inner.{exceeds, any_in_box}
 use Rattle.job.specs.Inner.{within, job_in_range}
-use Rattle.desk.specs.Refusals.{cells_of, alien_table, short_buffer}
+use Rattle.refusals.specs.Refusals.{alien_table, short_buffer}
+use Rattle.desk.specs.Refusals.{cells_of}
 use Rattle.fields.specs.Format.{trailer_length}
 use Rattle.job.specs.Block.{block_length}
 use Rattle.laws.specs.Put.{put}

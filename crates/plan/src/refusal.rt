@@ -1,6 +1,6 @@
 // What plan refuses, row by row: the table and the box, then the tree and its file.
 // Each goal is about what a list of refusals computes.
-#![tactic(auto, unfolding(crate::specs::Inner::box_refused, crate::specs::Refusals::plan_refusals, crate::specs::Inner::plan_tests, crate::specs::Inner::file_number, laws::specs::Inner::number_given,))]
+#![tactic(auto, unfolding(crate::specs::Inner::box_refused, crate::specs::Refusals::plan_refusals, crate::specs::Inner::plan_tests, crate::specs::Inner::file_number, desk::specs::Inner::job_refused, desk::specs::Inner::job_refusals, desk::specs::Inner::job_tests, laws::specs::Inner::number_given,))]
 
 ghost use Rattle.std.specs.Prelude.{◌≡◌, ◌+◌, ◌≤◌};
 ghost use Rattle.job.specs.Block.{block_length};
@@ -9,7 +9,7 @@ ghost use Rattle.tracer.specs.Inner.{length_most};
 ghost use Rattle.fields.specs.Format.{trailer_length};
 ghost use Rattle.plan.specs.Inner.{box_refused, file_number};
 
-use desk::refusal::inside;
+use desk::refusal::{inside, of_job};
 use fields::format::TRAILER_LENGTH;
 use job::Job;
 use job::block::block_length;
@@ -18,12 +18,7 @@ use refusals::Refusal;
 pub fn of_box(job: Job, t: &[u32], x: u32, y: u32) -> Result<(), Refusal>
     ensures { refused result ≡ box_refused job t.now x y }
 {
-    if !job.in_range() {
-        return Err(Refusal::BadJob);
-    }
-    if t.len() < usize::from(job.width) * usize::from(job.height) {
-        return Err(Refusal::ShortTable);
-    }
+    of_job(job, t)?;
     if !inside(x, y, job.width, job.height) {
         return Err(Refusal::NotInside);
     }

@@ -4,9 +4,6 @@
 
 ghost use Rattle.program.specs.Promise.{ProgramPromise};
 
-use desk::refusal;
-use fields::cast::widened;
-use job::block::from_block;
 use listing::line::put_refused;
 
 mod entry;
@@ -24,12 +21,8 @@ pub const TEXT: usize = 414_805;
 pub fn run(block: &[u8], text: &mut [u8; TEXT]) -> usize
     ensures { ProgramPromise block.now text.old result text.new }
 {
-    let blocked = from_block(block);
-    if !blocked.ok {
-        return put_refused(text, 0, widened(refusal::JOB));
+    match whole::print_sheet(block, text) {
+        Ok(length) => length,
+        Err(refusal) => put_refused(text, 0, u32::from(refusal) as usize),
     }
-    let from = blocked.job;
-    let mut cells = [0; CELLS];
-    let entered = entry::enter(from, &mut cells);
-    whole::print_entered(entered, &mut cells, text)
 }

@@ -4,11 +4,11 @@ use Rattle.program.proofs.whole.list_for.Goals as goal
 -- `list_for` meets its contract.
 pub list-ends-requires : goal.list-ends-requires
 list-ends-requires c =
-    may_list _ c.set_pieces.ensures c.wide.ensures.value c.block_length.ensures
-    c.wide-2.ensures.value c.wide-3.ensures.value c.requires
+    may_list _ c.set_pieces.ensures c.from.ensures c.block_length.ensures
+    c.from-2.ensures c.from-3.ensures c.requires
 
 pub returns : goal.returns
 returns c =
-    lists_plan _ c.set_pieces.ensures c.wide.ensures.value c.block_length.ensures
-    c.wide-2.ensures.value c.wide-3.ensures.value
+    lists_plan _ c.set_pieces.ensures c.from.ensures c.block_length.ensures
+    c.from-2.ensures c.from-3.ensures
     c.requires c.list-ends.ensures

@@ -10,7 +10,8 @@ use Rattle.cutting.specs.Dissection.{rest, crossed, part_width, part_height}
 use Rattle.cutting.specs.Tree.{Tree, Valid, earning}
 use Rattle.fields.specs.Format.{node_length, letter_p, letter_s}
 use Rattle.nodes.specs.Encoding.{letter_of, encode}
-use Rattle.nodes.specs.Reads.{frame, Tally, Found, tally_of}
+use Rattle.nodes.specs.Reads.{frame, Found, tally_of}
+use Rattle.nodes.specs.declared.Tally.{Tally}
 use Rattle.nodes.specs.Inner.{Written, Part, node_at, part_at, grown, ReadsTo}
 use Rattle.nodes.specs.declared.Node.{Node}
 use Rattle.nodes.proofs.Encoding.{found_first, found_second, valid_written}

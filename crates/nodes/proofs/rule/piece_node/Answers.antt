@@ -12,11 +12,11 @@ returns-then-k-eq0 c = sym (not_chosen (is_piece_says _ _ _ _) _ _ (λ n. omega 
 pub returns-then-k-last : goal.returns-then-k-last
 returns-then-k-last c = sym (not_chosen (is_piece_says _ _ _ _) _ _ (λ n. omega (arith, entry_last _ n)))
 
-pub returns-then-wide-width : goal.returns-then-wide-width
-returns-then-wide-width c = sym (not_chosen (is_piece_says _ _ _ _) _ _ (λ n. omega (arith, entry_width _ n c.piece_width.ensures (omega arith))))
+pub returns-then-from-width : goal.returns-then-from-width
+returns-then-from-width c = sym (not_chosen (is_piece_says _ _ _ _) _ _ (λ n. omega (arith, entry_width _ n c.piece_width.ensures (omega arith))))
 
-pub returns-then-wide-height : goal.returns-then-wide-height
-returns-then-wide-height c = sym (not_chosen (is_piece_says _ _ _ _) _ _ (λ n. omega (arith, entry_height _ n c.piece_height.ensures (omega arith))))
+pub returns-then-from-height : goal.returns-then-from-height
+returns-then-from-height c = sym (not_chosen (is_piece_says _ _ _ _) _ _ (λ n. omega (arith, entry_height _ n c.piece_height.ensures (omega arith))))
 
 pub returns : goal.returns
 returns c =

@@ -1,14 +1,14 @@
 use mathlib.Core.Path.{refl, ◌∙◌}
 use native.Mathlib.Omega.{arith}
 use Rattle.nodes.proofs.Rules.{node_short, node_whole}
-use Rattle.nodes.proofs.node_at.Goals as goal
+use Rattle.nodes.proofs.Nodes.node_at.Goals as goal
 
 -- `node_at`: whole, and judged by its letter.
-pub returns-then-nodes-lt-NODE_LENGTH : goal.returns-then-nodes-lt-NODE_LENGTH
-returns-then-nodes-lt-NODE_LENGTH c = node_short _ _ _ (omega arith)
+pub returns-then-self-lt-NODE_LENGTH : goal.returns-then-self-lt-NODE_LENGTH
+returns-then-self-lt-NODE_LENGTH c = node_short _ _ _ (omega arith)
 
-pub returns-then-nodes-at : goal.returns-then-nodes-at
-returns-then-nodes-at c = node_short _ _ _ (omega arith)
+pub returns-then-self-at : goal.returns-then-self-at
+returns-then-self-at c = node_short _ _ _ (omega arith)
 
 pub returns : goal.returns
 returns c =

@@ -27,8 +27,11 @@ use Rattle.job.proofs.Range.{job_says}
 use Rattle.job.proofs.Blocks.{shape_says}
 use Rattle.board.specs.Inner.{pieces_on, pieces_board}
 use Rattle.board.proofs.Holds.{pieces_read}
-use Rattle.nodes.specs.Reads.{Tally, frame}
-use Rattle.nodes.specs.Inner.{Part, part_at, tally, no_sums, tally_in, grown, ReadsTo, MayRead}
+use Rattle.nodes.specs.declared.Tally.{Tally}
+use Rattle.nodes.specs.Reads.{frame}
+use Rattle.nodes.specs.Inner.{Part, part_at, no_leaves, read_of, MayRead}
+use Rattle.nodes.specs.declared.Reading.{Reading}
+use Rattle.nodes.proofs.Answers.{read_back, broken_back}
 use Rattle.refusals.specs.Refusals.{not_framed, sum_differs, job_out_of_range, nodes_broken, value_differs}
 use Rattle.fields.specs.Format.{file_least, file_most, distance_least}
 use Rattle.checker.specs.Fields.{trailer_at, block_distance, nodes_distance, stated_value, stated_sum, note_length, nodes_at, summed_bytes, block_bytes}
@@ -102,39 +105,48 @@ agreed_found s e r = rw (e, (job_says (job_in s)).found r)
 pub on_board : (job : Job) {board : List ℕ} → JobInRange job → board ≡ pieces_board job → pieces_on board ≡ pieces_of job
 on_board job r e = ap pieces_on e ∙ pieces_read job r.count_most
 
-pub may_read : (job : Job) {board sums : List ℕ} {w h : ℕ} → JobInRange job → board ≡ pieces_board job → w ≡ job.width → h ≡ job.height → sums ≡ no_sums
-    → MayRead (pieces_on board) w h sums
-may_read job {board} {sums} {w} {h} r e f g z =
+pub may_read : (job : Job) {board : List ℕ} {w h : ℕ} → JobInRange job → board ≡ pieces_board job → w ≡ job.width → h ≡ job.height
+    → MayRead (pieces_on board) w h no_leaves
+may_read job {board} {w} {h} r e f g =
     let wide : w ≤ side_max = omega (arith, r.width_most) in
     let high : h ≤ side_max = omega (arith, r.height_most) in
     let area : w * h ≤ side_max * side_max = mul-le-mul wide high in
-    subst (λ (l : List Piece). MayRead l w h sums) (sym (on_board job r e))
-    (subst (MayRead (pieces_of job) w h) (sym z)
+    subst (λ (l : List Piece). MayRead l w h no_leaves) (sym (on_board job r e))
     (record {
       few = omega (arith, pieces-length job, r.count_most);
       range = r.pieces;
       wide = omega (arith, r.width_least);
       high = omega (arith, r.height_least);
-      room = record { long = refl; value = omega (arith, area); pieces = omega (arith, area); scrap = omega (arith, area) };
-    }))
+      room = record { value = omega (arith, area); pieces = omega (arith, area); scrap = omega (arith, area) };
+    })
 
 pub nodes_done : (file : List ℕ) (job : Job) {pieces : List Piece} {at start w h : ℕ} → pieces ≡ pieces_of job → at ≡ trailer_at file → start ≡ nodes_at file
     → w ≡ job.width → h ≡ job.height → part_at pieces (take at file) (frame start w h) ≡ nodes_read file job
 unfolding nodes_read
 nodes_done file job e f g i j = λ k. part_at (e k) (take (f k) file) (frame (g k) (i k) (j k))
 
+-- The same, as `leaves` comes to it.
+pub nodes_told : (file : List ℕ) (job : Job) {board : List ℕ} {at near start w h : ℕ} → JobInRange job → board ≡ pieces_board job → at ≡ trailer_at file
+    → near ≡ nodes_distance file → start ≡ at - near → w ≡ job.width → h ≡ job.height
+    → part_at (pieces_on board) (take at file) (frame start w h) ≡ nodes_read file job
+nodes_told file job r set e f g = nodes_done file job (on_board job r set) e (g ∙ ap₂ ◌-◌ e f)
+
 -- 12 and 13, by what was read.
-pub leaves_read : (file : List ℕ) (q : Part) {n : ℕ} {t : Tally} → q ≡ Part.Read n t → n ≡ trailer_at file → leaves_of file q ≡ Some t
+pub leaves_none : (file : List ℕ) (q : Part) → None ≡ read_of q → None ≡ leaves_of file q
 unfolding leaves_of
-leaves_read file q e d = rw (e, (says_eq _ _).found d)
+leaves_none file q e = ap (leaves_of file) (broken_back q e)
 
-pub leaves_broken : (file : List ℕ) {q : Part} → q ≡ Part.Broken → leaves_of file q ≡ None
+pub leaves_left : (file : List ℕ) (q : Part) {r : Reading} → Some r ≡ read_of q → (r.at ≡ trailer_at file → ⊥) → None ≡ leaves_of file q
 unfolding leaves_of
-leaves_broken file e = rw e
+leaves_left file q e h = rw (← read_back q e, says_no (says_eq _ _) h)
 
-pub leaves_left : (file : List ℕ) {q : Part} {n : ℕ} {t : Tally} → q ≡ Part.Read n t → (n ≡ trailer_at file → ⊥) → leaves_of file q ≡ None
+pub leaves_some : (file : List ℕ) (q : Part) {r : Reading} → Some r ≡ read_of q → r.at ≡ trailer_at file → Some r.leaves ≡ leaves_of file q
 unfolding leaves_of
-leaves_left file e h = rw (e, says_no (says_eq _ _) h)
+leaves_some file q e h = rw (← read_back q e, (says_eq _ _).found h)
+
+pub leaves_read : (file : List ℕ) {q : Part} {t : Tally} → q ≡ Part.Read (trailer_at file) t → leaves_of file q ≡ Some t
+unfolding leaves_of
+leaves_read file e = rw (e, (says_eq (trailer_at file) (trailer_at file)).found refl)
 
 pub judged_none : (file : List ℕ) (q : Part) → leaves_of file q ≡ None → Checked.Refused nodes_broken ≡ judged file q
 unfolding valued
@@ -149,26 +161,6 @@ pub judged_yes : (file : List ℕ) (q : Part) {note : ℕ} {t : Tally} → leave
     → note ≡ note_length file → Checked.Accepted t.value note t.pieces t.scrap ≡ judged file q
 unfolding valued
 judged_yes file q {t = t} e h k = rw (e, (says_eq _ _).found h, k)
-
--- The row of sums holds what was read; where a rule is broken, the reader's 0 isn't where the trailer starts.
-grown_first : (t : Tally) → tally_in (grown no_sums t) ≡ t
-unfolding grown
-grown_first t =
-    let value : 0 + t.value ≡ t.value = omega arith in
-    let pieces : 0 + t.pieces ≡ t.pieces = omega arith in
-    let scrap : 0 + t.scrap ≡ t.scrap = omega arith in
-    λ i. tally (value i) (pieces i) (scrap i)
-
-pub leaves_none : (file : List ℕ) {sums : List ℕ} {next : ℕ} (q : Part) → ReadsTo no_sums sums next q → (next ≡ trailer_at file → ⊥)
-    → None ≡ leaves_of file q
-leaves_none file (Part.Read n t) (ReadsTo.read e h) d = sym (leaves_left file refl (λ g. d (e ∙ g)))
-leaves_none file Part.Broken (ReadsTo.broken e) d = sym (leaves_broken file refl)
-
-pub leaves_some : (file : List ℕ) {sums : List ℕ} {next : ℕ} (q : Part) → Framed file → ReadsTo no_sums sums next q → next ≡ trailer_at file
-    → Some (tally_in sums) ≡ leaves_of file q
-leaves_some file (Part.Read n t) f (ReadsTo.read e h) d =
-    ap (λ (u : Tally). Some u) (ap tally_in h ∙ grown_first t) ∙ sym (leaves_read file _ refl (sym e ∙ d))
-leaves_some file Part.Broken f (ReadsTo.broken e) d = absurd (omega (arith, f.least))
 
 -- The chain, by its stages.
 pub refuses_9 : (file : List ℕ) → (Framed file → ⊥) → Checked.Refused not_framed ≡ checked file

@@ -5,7 +5,7 @@ use Rattle.job.specs.declared.Job.{Job}
 use Rattle.job.specs.declared.Blocked.{Blocked}
 use Rattle.job.specs.Job.{pieces_of}
 use Rattle.job.specs.Inner.{job_in_range, from_block}
-use Rattle.nodes.specs.Reads.{Tally}
+use Rattle.nodes.specs.declared.Tally.{Tally}
 use Rattle.nodes.specs.Inner.{Part, part_at}
 use Rattle.refusals.specs.Refusals.{not_framed, sum_differs, job_out_of_range, nodes_broken, value_differs}
 use Rattle.fields.specs.Format.{file_least, file_most, distance_least}

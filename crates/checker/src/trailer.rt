@@ -1,8 +1,7 @@
 // The trailer of a framed plan file, and the parts that it points back to: the note, the job block and the nodes (rules 8.2 and 8.7).
-ghost use Rattle.std.specs.Prelude.{◌≡◌, option_map, MatchOption};
+ghost use Rattle.std.specs.Prelude.{◌≡◌, MatchOption};
 ghost use Rattle.job.specs.Range.{JobInRange};
 ghost use Rattle.job.specs.Inner.{from_block};
-ghost use Rattle.nodes.specs.Inner.{tally_in};
 ghost use Rattle.checker.specs.Fields.{trailer_at, block_distance, nodes_distance, stated_value, note_length, block_bytes};
 ghost use Rattle.checker.specs.Checked.{Framed};
 ghost use Rattle.checker.specs.Inner.{sum_agrees, agreed, nodes_read, leaves_of};
@@ -15,7 +14,7 @@ use fields::format::{
 use fields::{number4, sum_of};
 use job::Job;
 use job::block::from_block;
-use nodes::{SUM_COUNT, Sums, read_part};
+use nodes::{Nodes, Tally};
 
 // A framed file, where its trailer starts, and what that states: D1, D2 and the value.
 #[derive(Clone, Copy)]
@@ -88,24 +87,21 @@ impl<'a> Trailer<'a> {
     }
 
     // The leaves of the tree for the whole rectangle, added up, if its nodes obey the rules and end where the trailer starts (rule 7.12).
-    pub fn leaves(&self, job: Job) -> Option<Sums>
+    pub fn leaves(&self, job: Job) -> Option<Tally>
         requires { JobInRange job }
-        ensures { option_map tally_in result ≡ leaves_of self.now.file.now (nodes_read self.now.file.now job) }
+        ensures { result ≡ leaves_of self.now.file.now (nodes_read self.now.file.now job) }
     {
         let mut board: Board = [0; PLACES];
         set_pieces(&mut board, job);
-        let mut sums: Sums = [0; SUM_COUNT];
-        let next = read_part(
-            &board,
-            &self.file[..self.at],
-            self.at.saturating_sub(self.d2),
-            usize::from(job.width),
-            usize::from(job.height),
-            &mut sums,
-        );
-        if next != self.at {
+        let nodes = Nodes {
+            board: &board,
+            bytes: &self.file[..self.at],
+        };
+        let start = self.at.saturating_sub(self.d2);
+        let reading = nodes.read(start, usize::from(job.width), usize::from(job.height))?;
+        if reading.at != self.at {
             return None;
         }
-        Some(sums)
+        Some(reading.leaves)
     }
 }

@@ -17,7 +17,6 @@ use Rattle.cutting.specs.Piece.{Piece}
 use Rattle.fields.specs.Number.{number4_of}
 use Rattle.fields.specs.Sum.{sum_of}
 use Rattle.job.specs.declared.Job.{Job}
-use Rattle.job.specs.declared.Blocked.{Blocked}
 use Rattle.job.specs.Job.{pieces_of}
 use Rattle.job.specs.Range.{JobInRange}
 use Rattle.job.specs.Inner.{job_in_range, from_block, block_shape}
@@ -25,6 +24,7 @@ use Rattle.job.specs.Block.{job_in, BlockShape}
 use Rattle.job.proofs.Pieces.{pieces-length}
 use Rattle.job.proofs.Range.{job_says}
 use Rattle.job.proofs.Blocks.{shape_says}
+use Rattle.board.specs.declared.Board.{Board}
 use Rattle.board.specs.Inner.{pieces_on, pieces_board}
 use Rattle.board.proofs.Holds.{pieces_read}
 use Rattle.nodes.specs.declared.Tally.{Tally}
@@ -60,12 +60,12 @@ sum_done file {start} {end} f e d g h =
     ap₂ eqb (g ∙ ap₂ (λ (n k : ℕ). sum_of (take n (drop k file))) part e) (h ∙ ap (number4_of file) place)
 
 -- 11
-pub block_done : (file : List ℕ) {start end : ℕ} {r : Blocked} → start ≡ note_length file → end ≡ note_length file + (block_distance file - nodes_distance file)
-    → r ≡ from_block (take (end - start) (drop start file)) → r ≡ from_block (block_bytes file)
+pub block_done : (file : List ℕ) {start end : ℕ} → start ≡ note_length file → end ≡ note_length file + (block_distance file - nodes_distance file)
+    → take (end - start) (drop start file) ≡ block_bytes file
 unfolding block_bytes
-block_done file {start} {end} e d g =
+block_done file {start} {end} e d =
     let part : end - start ≡ block_distance file - nodes_distance file = omega arith in
-    g ∙ ap₂ (λ (n k : ℕ). from_block (take n (drop k file))) part e
+    ap₂ (λ (n k : ℕ). take n (drop k file)) part e
 
 -- What stage 11 passes on.
 pub record Agreed (file : List ℕ) (job : Job) : Type 0 where
@@ -84,28 +84,15 @@ agreed_tells file {job} h = go (block_shape (block_bytes file)) refl
         record { shape = (shape_says s).means e; same = sym both.1; range = subst JobInRange both.1 ((job_says (job_in s)).means both.0) }
     go false e = absurd (none-some job (rw e at h))
 
--- The test of a block, then that of its job.
-pub agreed_shapeless : (b : Blocked) → b.ok ≡ false → None ≡ agreed b
-unfolding agreed
-agreed_shapeless b e = rw e
-
-pub agreed_none : (b : Blocked) → b.ok ≡ true → false ≡ job_in_range b.job → None ≡ agreed b
-unfolding agreed
-agreed_none b e h = rw (e, ← h)
-
-pub agreed_some : (b : Blocked) → b.ok ≡ true → true ≡ job_in_range b.job → Some b.job ≡ agreed b
-unfolding agreed
-agreed_some b e h = rw (e, ← h)
-
 pub agreed_found : (s : List ℕ) → block_shape s ≡ true → JobInRange (job_in s) → agreed (from_block s) ≡ Some (job_in s)
 unfolding agreed from_block
 agreed_found s e r = rw (e, (job_says (job_in s)).found r)
 
 -- 12: on the board of a job in range stand its pieces, and the reader's premises hold.
-pub on_board : (job : Job) {board : List ℕ} → JobInRange job → board ≡ pieces_board job → pieces_on board ≡ pieces_of job
+pub on_board : (job : Job) {board : Board} → JobInRange job → board ≡ pieces_board job → pieces_on board ≡ pieces_of job
 on_board job r e = ap pieces_on e ∙ pieces_read job r.count_most
 
-pub may_read : (job : Job) {board : List ℕ} {w h : ℕ} → JobInRange job → board ≡ pieces_board job → w ≡ job.width → h ≡ job.height
+pub may_read : (job : Job) {board : Board} {w h : ℕ} → JobInRange job → board ≡ pieces_board job → w ≡ job.width → h ≡ job.height
     → MayRead (pieces_on board) w h no_leaves
 may_read job {board} {w} {h} r e f g =
     let wide : w ≤ side_max = omega (arith, r.width_most) in
@@ -126,7 +113,7 @@ unfolding nodes_read
 nodes_done file job e f g i j = λ k. part_at (e k) (take (f k) file) (frame (g k) (i k) (j k))
 
 -- The same, as `leaves` comes to it.
-pub nodes_told : (file : List ℕ) (job : Job) {board : List ℕ} {at near start w h : ℕ} → JobInRange job → board ≡ pieces_board job → at ≡ trailer_at file
+pub nodes_told : (file : List ℕ) (job : Job) {board : Board} {at near start w h : ℕ} → JobInRange job → board ≡ pieces_board job → at ≡ trailer_at file
     → near ≡ nodes_distance file → start ≡ at - near → w ≡ job.width → h ≡ job.height
     → part_at (pieces_on board) (take at file) (frame start w h) ≡ nodes_read file job
 nodes_told file job r set e f g = nodes_done file job (on_board job r set) e (g ∙ ap₂ ◌-◌ e f)

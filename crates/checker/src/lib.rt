@@ -28,7 +28,7 @@ pub fn check(file: &[u8]) -> Result<Accepted, Refusal>
         return Err(Refusal::SumDiffers);
     }
     let job = trailer.job().ok_or(Refusal::JobOutOfRange)?;
-    let leaves = trailer.leaves(job).ok_or(Refusal::NodesBroken)?;
+    let leaves = trailer.leaves(&job).ok_or(Refusal::NodesBroken)?;
     if leaves.value != trailer.value {
         return Err(Refusal::ValueDiffers);
     }

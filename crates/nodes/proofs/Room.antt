@@ -47,7 +47,7 @@ module _ {pieces : List Piece} {x y : ℕ} {tall : Bool} {c : ℕ} {before : Tal
       → RoomFor now (tally (u * v * value_max) (u * v) (u * v)) → (2 * (u * v) + 1 < t) × MayRead pieces u v now
   part_ready h p o both m room =
       let at = part_sides h p in
-      (omega arith, record { few = may.part.few; range = may.part.range; wide = at.0; high = at.1; room = room })
+      (omega arith, record { range = may.part.range; wide = at.0; high = at.1; room = room })
 
   pub near_ready : {u v t : ℕ} → PartIs x y tall c u v → 2 * (x * y) ≡ t → (2 * (u * v) + 1 < t) × MayRead pieces u v before
   near_ready near m =

@@ -2,10 +2,9 @@
 use Rattle.std.specs.Prelude.{ℕ, ◌<◌, ◌+◌, ◌-◌, ◌*◌, ◌^◌, ◌≤◌, ◌≡◌, List, Bool, true, false, cond, ◌&&◌, get_or, length, leb, eqb, Option, Some, None}
 use Rattle.laws.specs.Inner.{deep}
 use Rattle.cutting.specs.Limits.{value_max}
-use Rattle.cutting.specs.Piece.{Piece, piece_at, Numbered, Lays, InRange}
+use Rattle.cutting.specs.Piece.{Piece, piece_at, Lays, InRange}
 use Rattle.cutting.specs.Dissection.{rest, crossed, part_width, part_height, Line}
 use Rattle.cutting.specs.Tree.{Tree}
-use Rattle.board.specs.Inner.{entries}
 use Rattle.fields.specs.Number.{number2_of}
 use Rattle.fields.specs.Format.{letter_v, letter_h, letter_p, letter_s, node_length}
 use Rattle.nodes.specs.Reads.{Frame, frame}
@@ -149,18 +148,12 @@ pub record RoomFor (before t : Tally) : Type 0 where
 
 -- What a part's reader may rely on: pieces in range, a rectangle (rule 2.1), and room for the most that it can add.
 pub record MayRead (pieces : List Piece) (x y : ℕ) (before : Tally) : Type 0 where
-  pub few : length pieces ≤ entries
   pub range : InRange (Lays pieces)
   pub wide : 1 ≤ x
   pub high : 1 ≤ y
   pub room : RoomFor before (tally (x * y * value_max) (x * y) (x * y))
 
--- The same of a part that a line goes through, and the number of a piece of a part's size.
+-- The same of a part that a line goes through.
 pub record MayReadLine (pieces : List Piece) (x y : ℕ) (tall : Bool) (c : ℕ) (before : Tally) : Type 0 where
   pub part : MayRead pieces x y before
   pub line : Line (crossed tall x y) c (rest (crossed tall x y) c)
-
-pub record MayReadPiece (pieces : List Piece) (k x y : ℕ) : Type 0 where
-  pub few : length pieces ≤ entries
-  pub numbered : Numbered pieces k x y (piece_at pieces k).value
-  pub room : x * y < 2 ^ 32

@@ -2,17 +2,17 @@
 // A stranger's file chooses how deep they go, so that a level carries plain numbers alone. rule.rt: the rule of each letter.
 #![tactic(auto)]
 
-ghost use Rattle.std.specs.Prelude.{◌≡◌, ◌+◌, ◌*◌, ◌^◌, ◌≤◌, ◌<◌};
-ghost use Rattle.cutting.specs.Piece.{piece_at};
-ghost use Rattle.board.specs.Inner.{entries, count_on, pieces_on};
+ghost use Rattle.std.specs.Prelude.{◌≡◌, ◌+◌, ◌*◌, ◌^◌, ◌<◌};
+ghost use Rattle.cutting.specs.Piece.{piece_at, Numbered};
+ghost use Rattle.board.specs.Inner.{pieces_on};
 ghost use Rattle.fields.specs.Format.{node_length};
 ghost use Rattle.nodes.specs.Reads.{frame};
-ghost use Rattle.nodes.specs.Inner.{node_at, piece_tally, part_at, both_at, tally_both, no_leaves, reading, read_of, behind_leaf, ReadsTo, RoomFor, MayReadPiece, MayRead, MayReadLine};
+ghost use Rattle.nodes.specs.Inner.{node_at, piece_tally, part_at, both_at, tally_both, no_leaves, reading, read_of, behind_leaf, ReadsTo, RoomFor, MayRead, MayReadLine};
 
+use board::Board;
 use board::line::{crossed, part_height, part_width, rest};
-use board::{Board, piece_value};
+use fields::Field;
 use fields::format::NODE_LENGTH;
-use fields::number2;
 use rule::by_letter;
 
 mod rule;
@@ -80,7 +80,6 @@ impl Reading {
 impl Nodes<'_> {
     // The node that a part of this width and height starts with; or none, where a rule is broken.
     pub fn node_at(&self, at: usize, width: usize, height: usize) -> Option<Node>
-        requires { count_on self.now.board.now ≤ entries }
         ensures { result ≡ node_at (pieces_on self.now.board.now) self.now.bytes.now (frame at width height) }
     {
         if self.bytes.len() < NODE_LENGTH {
@@ -92,7 +91,7 @@ impl Nodes<'_> {
         by_letter(
             self.board,
             self.bytes[at],
-            number2(self.bytes, at + 1),
+            u16::read(self.bytes, at + 1),
             width,
             height,
         )
@@ -100,11 +99,12 @@ impl Nodes<'_> {
 
     // What a piece's leaf adds, by the piece's number.
     fn piece_leaf(&self, number: u16, width: usize, height: usize) -> Tally
-        requires { MayReadPiece (pieces_on self.now.board.now) number width height }
+        requires numbered { Numbered (pieces_on self.now.board.now) number width height (piece_at (pieces_on self.now.board.now) number).value }
+        requires room { width * height < 2 ^ 32 }
         ensures { result ≡ piece_tally (piece_at (pieces_on self.now.board.now) number).value width height }
     {
         Tally {
-            value: u32::from(piece_value(self.board, usize::from(number) - 1)),
+            value: u32::from(self.board.piece(usize::from(number) - 1).value),
             pieces: area(width, height),
             scrap: 0,
         }

@@ -1,11 +1,11 @@
 // The rule of each letter: what its node is on a part of this width and height, and whether it is broken.
-ghost use Rattle.std.specs.Prelude.{◌≡◌, ◌≤◌};
-ghost use Rattle.board.specs.Inner.{entries, count_on, pieces_on};
+ghost use Rattle.std.specs.Prelude.{◌≡◌};
+ghost use Rattle.board.specs.Inner.{pieces_on};
 ghost use Rattle.nodes.specs.Inner.{line_node, piece_node, scrap_node, letter_node};
 
 use crate::Node;
+use board::Board;
 use board::line::crossed;
-use board::{Board, count, piece_height, piece_width};
 use fields::format::{HORIZONTAL, PIECE, SCRAP, VERTICAL};
 
 // `V` and c, `H` and d: a line through a side (rule 8.5).
@@ -24,21 +24,21 @@ fn line_node(tall: bool, side: usize, number: u16) -> Option<Node>
 
 // `P` and the number of a piece of exactly this size (rule 8.5).
 fn piece_node(board: &Board, number: u16, width: usize, height: usize) -> Option<Node>
-    requires { count_on board.now ≤ entries }
     ensures { result ≡ piece_node (pieces_on board.now) number width height }
 {
     let k = usize::from(number);
     if k == 0 {
         return None;
     }
-    let last = count(board);
+    let last = board.count();
     if k > last {
         return None;
     }
-    if usize::from(piece_width(board, k - 1)) != width {
+    let piece = board.piece(k - 1);
+    if usize::from(piece.width) != width {
         return None;
     }
-    if usize::from(piece_height(board, k - 1)) != height {
+    if usize::from(piece.height) != height {
         return None;
     }
     Some(Node::Piece(number))
@@ -62,7 +62,6 @@ pub(crate) fn by_letter(
     width: usize,
     height: usize,
 ) -> Option<Node>
-    requires { count_on board.now ≤ entries }
     ensures { result ≡ letter_node (pieces_on board.now) letter number width height }
 {
     match letter {

@@ -4,7 +4,6 @@ use mathlib.Core.Path.{refl, sym, ap, ap₂, ◌∙◌}
 use native.Mathlib.Omega.{arith}
 use Rattle.std.specs.Prelude.{Some}
 use Rattle.nodes.specs.Inner.{ReadsTo, part_by, tally, behind_leaf}
-use Rattle.nodes.proofs.Entries.{few_on}
 use Rattle.nodes.proofs.Rules.{node_tells}
 use Rattle.nodes.proofs.Room.{part_is, piece_room}
 use Rattle.nodes.proofs.Answers.{near_broken, far_ready, far_answers, node_answers}
@@ -27,9 +26,6 @@ read_line-returns t c =
     far_answers _ _ (part_is c.from-near.ensures c.part_width.ensures c.part_height.ensures) _ _ c.in_ok-read_part.ensures
     (part_is far c.part_width-2.ensures c.part_height-2.ensures) c.read_part-2.ensures
 
-pub read_part-node_at-requires : goal.read_part-node_at-requires
-read_part-node_at-requires t c = few_on _ c.requires.few
-
 pub read_part-returns-in_err-node : goal.read_part-returns-in_err-node
 unfolding part_by
 read_part-returns-in_err-node t c =
@@ -45,10 +41,10 @@ read_part-read_line-requires t c =
     let found = sym c.in_ok-node.ensures ∙ ap Some c.in-Line.is in
     (omega arith, record { part = c.requires; line = (node_tells _ _ _ found).1 })
 
-pub read_part-piece_leaf-requires : goal.read_part-piece_leaf-requires
-read_part-piece_leaf-requires t c =
+pub read_part-piece_leaf-requires-clause-numbered : goal.read_part-piece_leaf-requires-clause-numbered
+read_part-piece_leaf-requires-clause-numbered t c =
     let found = sym c.in_ok-node.ensures ∙ ap Some c.in-Piece.is in
-    record { few = c.requires.few; numbered = (node_tells _ _ _ found).1; room = omega (arith, c.requires.room.pieces) }
+    (node_tells _ _ _ found).1
 
 pub read_part-add_leaf-requires-clause-place : goal.read_part-add_leaf-requires-clause-place
 read_part-add_leaf-requires-clause-place t c =

@@ -12,4 +12,4 @@ returns-then-self-at c = node_short _ _ _ (omega arith)
 
 pub returns : goal.returns
 returns c =
-    c.by_letter.ensures ∙ node_whole _ _ _ (record { whole = omega arith; letter = refl; number = c.number2.ensures })
+    c.by_letter.ensures ∙ node_whole _ _ _ (record { whole = omega arith; letter = refl; number = c.read.ensures })

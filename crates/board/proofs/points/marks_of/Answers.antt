@@ -12,12 +12,6 @@ use Rattle.board.proofs.points.marks_of.Goals.{then-led, else-led+then-marks-las
 pub loop-last-init : goal.loop-last-init
 loop-last-init g c = rw c.new-steps.ensures (omega arith, ascending_none, λ of gives. passing_start (c.size_marks-marks.ensures of gives))
 
-pub led-requires-clause-rising : goal.led-requires-clause-rising
-led-requires-clause-rising g c = subst (λ (l : List ℕ). Rising (step_at l) (length l)) (sym c.as_slice.ensures) c.loop-last.invariant.1.rising
-
-pub push-requires : goal.push-requires
-push-requires g c = omega (arith, c.loop-last.invariant.1.few, c.requires.within)
-
 pub loop-last-preserved : goal.loop-last-preserved
 loop-last-preserved g c =
     let further : (of : ℕ → ℕ) → Gives (goal.F-post g c.args.size) c.args.pieces.now of

@@ -2,8 +2,9 @@
 use Prim.Native.Nat.{ℕ, ◌+◌, ◌-◌, ◌*◌, ◌≤◌}
 use mathlib.Core.Bool.{Bool, true, false}
 use mathlib.Core.Path.{◌≡◌, refl, sym, ap, ap₂, subst, ◌∙◌}
-use Rattle.std.proofs.Common.{Option, Some, None, Err, ok_or}
+use Rattle.std.proofs.Common.{Option, MatchOption, cond, Some, None, Err, ok_or}
 use Rattle.refusals.specs.declared.Refusal.{Refusal}
+use Rattle.std.specs.Bool.{then_some}
 use Rattle.std.proofs.lemmas.Option.{cond_some, none-some}
 use mathlib.Core.List.{List}
 use native.Mathlib.Omega.{arith}
@@ -21,7 +22,6 @@ use Rattle.job.specs.Job.{pieces_of}
 use Rattle.job.specs.Range.{JobInRange}
 use Rattle.job.specs.Inner.{job_in_range, from_block, block_shape}
 use Rattle.job.specs.Block.{job_in, BlockShape}
-use Rattle.job.proofs.Pieces.{pieces-length}
 use Rattle.job.proofs.Range.{job_says}
 use Rattle.job.proofs.Blocks.{shape_says}
 use Rattle.board.specs.declared.Board.{Board}
@@ -84,6 +84,16 @@ agreed_tells file {job} h = go (block_shape (block_bytes file)) refl
         record { shape = (shape_says s).means e; same = sym both.1; range = subst JobInRange both.1 ((job_says (job_in s)).means both.0) }
     go false e = absurd (none-some job (rw e at h))
 
+pub filtered : (o r : Option Job) {P : Job → Bool → Type 0} → ((x : Job) (b : Bool) → P x b → b ≡ job_in_range x)
+    → MatchOption o (r ≡ None) (λ x. (b : Bool) × P x b × (r ≡ then_some b x)) → r ≡ agreed o
+unfolding agreed
+filtered None r h e = e
+filtered (Some job) r h (b, p, e) = e ∙ (ap (λ (t : Bool). then_some t job) (h job b p) ∙ by (job_in_range job))
+  where
+    by : (t : Bool) → then_some t job ≡ cond t (Some job) None
+    by true = refl
+    by false = refl
+
 pub agreed_found : (s : List ℕ) → block_shape s ≡ true → JobInRange (job_in s) → agreed (from_block s) ≡ Some (job_in s)
 unfolding agreed from_block
 agreed_found s e r = rw (e, (job_says (job_in s)).found r)
@@ -100,7 +110,6 @@ may_read job {board} {w} {h} r e f g =
     let area : w * h ≤ side_max * side_max = mul-le-mul wide high in
     subst (λ (l : List Piece). MayRead l w h no_leaves) (sym (on_board job r e))
     (record {
-      few = omega (arith, pieces-length job, r.count_most);
       range = r.pieces;
       wide = omega (arith, r.width_least);
       high = omega (arith, r.height_least);

@@ -2,8 +2,7 @@
 use Prim.Native.Nat.{ℕ, ◌+◌, ◌-◌, ◌*◌, ◌≤◌}
 use mathlib.Core.Bool.{Bool, true, false}
 use mathlib.Core.Path.{◌≡◌, refl, sym, ap, ap₂, subst, ◌∙◌}
-use Rattle.std.proofs.Common.{Option, MatchOption, cond, Some, None, Err, ok_or}
-use Rattle.refusals.specs.declared.Refusal.{Refusal}
+use Rattle.std.proofs.Common.{Option, MatchOption, cond, Some, None}
 use Rattle.std.specs.Bool.{then_some}
 use Rattle.std.proofs.lemmas.Option.{cond_some, none-some}
 use mathlib.Core.List.{List}
@@ -176,8 +175,3 @@ pub judges : (file : List ℕ) {job : Job} {r : Checked} → Framed file → tru
     → agreed (from_block (block_bytes file)) ≡ Some job → r ≡ judged file (nodes_read file job) → r ≡ checked file
 unfolding checked judged_job
 judges file f d g i = rw ((framed_says file).found f, ← d, g) i
-
--- What a `?` refuses with.
-pub refused_with : {A : Type 0} (o : Option A) {e f : Refusal} → Err e ≡ ok_or o f → e ≡ f
-refused_with None h = grind arith
-refused_with (Some x) h = grind arith

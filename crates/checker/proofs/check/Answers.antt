@@ -1,8 +1,9 @@
 use Rattle.std.proofs.Common.{arith, sym, ◌∙◌, ap}
 use Rattle.std.proofs.lemmas.Option.{MatchOption-at_none, MatchOption-at_some}
 use Rattle.std.proofs.lemmas.Result.{err_from_is_err_and}
+use Rattle.refusals.proofs.Numbers.{refused_with}
 use Rattle.checker.specs.Inner.{checked}
-use Rattle.checker.proofs.Stages.{agreed_tells, refused_with, refuses_9, refuses_10, refuses_11, judges, judged_none, judged_value, judged_yes}
+use Rattle.checker.proofs.Stages.{agreed_tells, refuses_9, refuses_10, refuses_11, judges, judged_none, judged_value, judged_yes}
 use Rattle.checker.proofs.check.Goals as goal
 
 -- `check` meets its contract.

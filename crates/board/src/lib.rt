@@ -42,11 +42,7 @@ impl Board {
         requires { job.now.count ≤ pieces_max }
         ensures { result ≡ pieces_board job.now }
     {
-        let mut pieces = [Piece {
-            width: 0,
-            height: 0,
-            value: 0,
-        }; ENTRIES];
+        let mut pieces = [Piece::default(); ENTRIES];
         pieces[..job.pieces.len()].copy_from_slice(&job.pieces);
         Board {
             width: job.width,

@@ -1,10 +1,11 @@
 use native.Mathlib.Omega.{arith}
-use mathlib.Core.Path.{refl, ap}
-use mathlib.Core.List.{List, ◌++◌}
+use Prim.Native.Nat.{◌-◌}
+use mathlib.Core.Path.{refl}
+use mathlib.Core.List.{◌++◌}
 use lib.ListN.{replicate}
-use Rattle.job.specs.declared.Piece.{Piece as Record}
-use Rattle.job.specs.Job.{no_record}
-use Rattle.board.specs.Inner.{pieces_board}
+use Rattle.cutting.specs.Limits.{pieces_max}
+use Rattle.job.proofs.Pieces.{is_no_record}
+use Rattle.board.specs.Inner.{entries, pieces_board}
 use Rattle.board.proofs.Laid.{same_board}
 use Rattle.board.proofs.Board.of_pieces.Goals as goal
 
@@ -12,4 +13,4 @@ use Rattle.board.proofs.Board.of_pieces.Goals as goal
 pub returns : goal.returns
 unfolding pieces_board
 returns c =
-    same_board _ _ refl refl (omega (arith, c.requires)) (ap (λ (l : List Record). l ++ replicate 64 no_record) c.copy_from_slice.ensures.after) refl refl
+    same_board _ _ refl refl (omega (arith, c.requires)) (λ i. c.copy_from_slice.ensures.after i ++ replicate (entries - pieces_max) (is_no_record c.default-pieces.ensures i)) refl refl

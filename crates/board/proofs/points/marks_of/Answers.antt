@@ -1,9 +1,8 @@
 use Prim.Native.Nat.{ℕ}
 use native.Mathlib.Omega.{arith}
-use mathlib.Core.List.{List}
-use mathlib.Core.Path.{sym, subst, ◌∙◌}
+use mathlib.Core.Path.{◌∙◌}
 use lib.ListN.{length}
-use Rattle.board.specs.Inner.{Gives, step_at, Rising}
+use Rattle.board.specs.Inner.{Gives}
 use Rattle.board.proofs.Marking.{Further, passing_start, passing_end, pass_on, ascending_none, ascending_same, ascending_more}
 use Rattle.board.proofs.points.marks_of.Goals as goal
 use Rattle.board.proofs.points.marks_of.Goals.{then-led, else-led+then-marks-last, else-led+else-marks-last}

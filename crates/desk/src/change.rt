@@ -35,6 +35,7 @@ fn empty_size(job: &Job, t: &mut [u32], size: Piece)
 }
 
 // Empties the cells of the sheet width by height and answers a job with no pieces.
+#[tactic(auto, using(crate::proofs::Granted::open_granted))]
 pub fn open(width: u32, height: u32, t: &mut [u32]) -> Result<Job, Refusal>
     ensures { OpenPromise width height t.old (changed_from zero_job result) t.new }
 {
@@ -45,6 +46,7 @@ pub fn open(width: u32, height: u32, t: &mut [u32]) -> Result<Job, Refusal>
 }
 
 // Adds a piece behind the others.
+#[tactic(auto, using(crate::proofs::Granted::add_granted))]
 pub fn add(job: Job, t: &mut [u32], piece: Piece) -> Result<Job, Refusal>
     ensures { AddPromise job t.old piece (changed_from job result) t.new }
 {
@@ -54,6 +56,7 @@ pub fn add(job: Job, t: &mut [u32], piece: Piece) -> Result<Job, Refusal>
 }
 
 // Puts another record in the place of piece `number`. What the old size or the new one could touch is forgotten.
+#[tactic(auto, using(crate::proofs::Granted::correct_granted, crate::proofs::Granted::record_in))]
 pub fn correct(job: Job, t: &mut [u32], number: u32, piece: Piece) -> Result<Job, Refusal>
     ensures { CorrectPromise job t.old number piece (changed_from job result) t.new }
 {
@@ -64,6 +67,7 @@ pub fn correct(job: Job, t: &mut [u32], number: u32, piece: Piece) -> Result<Job
 }
 
 // Takes piece `number` out; each one after it gets a number one less.
+#[tactic(auto, using(crate::proofs::Granted::remove_granted, crate::proofs::Granted::record_in))]
 pub fn remove(job: Job, t: &mut [u32], number: u32) -> Result<Job, Refusal>
     ensures { RemovePromise job t.old number (changed_from job result) t.new }
 {

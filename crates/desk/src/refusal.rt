@@ -1,6 +1,20 @@
 // What each call on a table refuses, row by row.
 // Each goal is about what a list of refusals computes.
-#![tactic(auto, unfolding(crate::specs::Inner::job_refused, crate::specs::Inner::job_refusals, crate::specs::Inner::job_tests, crate::specs::Inner::open_refused, crate::specs::Refusals::open_refusals, crate::specs::Inner::open_tests, crate::specs::Inner::add_refused, crate::specs::Refusals::add_refusals, crate::specs::Inner::add_tests, crate::specs::Inner::correct_refused, crate::specs::Refusals::correct_refusals, crate::specs::Inner::correct_tests, crate::specs::Inner::remove_refused, crate::specs::Refusals::remove_refusals, crate::specs::Inner::remove_tests, crate::specs::Inner::ask_refused, crate::specs::Refusals::ask_refusals, crate::specs::Inner::ask_tests, laws::specs::Inner::number_given,))]
+#![tactic(auto, unfolding(
+// a job
+crate::specs::Inner::job_refused, crate::specs::Inner::job_refusals, crate::specs::Inner::job_tests,
+// open
+crate::specs::Inner::open_refused, crate::specs::Refusals::open_refusals, crate::specs::Inner::open_tests,
+// add
+crate::specs::Inner::add_refused, crate::specs::Refusals::add_refusals, crate::specs::Inner::add_tests,
+// correct
+crate::specs::Inner::correct_refused, crate::specs::Refusals::correct_refusals, crate::specs::Inner::correct_tests,
+// remove
+crate::specs::Inner::remove_refused, crate::specs::Refusals::remove_refusals, crate::specs::Inner::remove_tests,
+// ask
+crate::specs::Inner::ask_refused, crate::specs::Refusals::ask_refusals, crate::specs::Inner::ask_tests,
+// what a list gives
+laws::specs::Inner::number_given))]
 
 ghost use Rattle.std.specs.Prelude.{◌≡◌, ◌&&◌};
 ghost use Rattle.job.specs.Inner.{within};

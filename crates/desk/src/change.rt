@@ -11,6 +11,7 @@ use job::{Job, Piece};
 use refusals::Refusal;
 
 // The record of piece `number`.
+#[tactic(auto, unfolding(crate::specs::Changing::record_of_piece))]
 fn piece_of(job: &Job, number: u32) -> Piece
     requires count_le_pieces_max { job.now.count ≤ pieces_max }
     requires number { IsNumber job.now number }
@@ -20,6 +21,7 @@ fn piece_of(job: &Job, number: u32) -> Piece
 }
 
 // Empties the cells of the job's sheet where a size fits.
+#[tactic(auto, unfolding(crate::specs::Inner::emptied_size))]
 fn empty_size(job: &Job, t: &mut [u32], size: Piece)
     requires usable { Usable job.now t.old }
     requires le_width { (1 ≤ size.width) × (1 ≤ size.height) }

@@ -1,5 +1,5 @@
 -- How plan joins its refusal and its work, over the definitions.
-use Prim.Native.Nat.{ℕ, zero, suc, ◌+◌, ◌*◌, ◌≤◌, ◌<◌}
+use Prim.Native.Nat.{ℕ, zero, suc, ◌+◌, ◌*◌, ◌≤◌}
 use mathlib.Core.Bool.{Bool, true, false, cond}
 use mathlib.Core.List.{List}
 use mathlib.Core.Path.{◌≡◌, refl, sym, ap, ap₂, ◌∙◌}
@@ -8,9 +8,9 @@ use native.Mathlib.Nat.{mul-le-mul}
 use lib.ListN.{length}
 use lib.Dec.{leb}
 use Rattle.laws.specs.Inner.{number_given, every_number, Wrote}
-use Rattle.laws.proofs.Says.{says_eq, says_le}
+use Rattle.laws.proofs.Says.{says_eq}
 use Rattle.laws.proofs.Refusal.{answers, begun_stops, begun_passes}
-use Rattle.laws.proofs.Choice.{chosen, not_chosen}
+use Rattle.laws.proofs.Choice.{not_chosen}
 use Rattle.laws.specs.Put.{put}
 use Rattle.cutting.specs.Limits.{side_max}
 use Rattle.cutting.specs.Piece.{Inside}
@@ -25,43 +25,37 @@ use Rattle.nodes.proofs.Encoding.{encode_least}
 use Rattle.board.specs.Inner.{rows_on, width_on, board_of}
 use Rattle.tracer.specs.Inner.{whole, measured}
 use Rattle.fields.specs.Format.{node_length, trailer_length, file_most}
-use Rattle.desk.specs.Refusals.{alien_table, short_buffer}
+use Rattle.refusals.specs.Refusals.{alien_table, short_buffer}
 use Rattle.desk.specs.Inner.{accepted}
 use Rattle.desk.proofs.Answers.{given, left-as-it-was}
-use Rattle.plan.specs.declared.Planned.TheVariants.{Written, Refused}
 use Rattle.plan.specs.File.{sheet_of}
 use Rattle.plan.specs.Inner.{tree_for, traces_for, plan_file, box_rows, plan_tests, box_refused, file_refused, file_number, plan_refused, planned_with, Ready}
 use Rattle.plan.specs.Refusals.{Readable, plan_refusals}
 use Rattle.plan.proofs.Tracing.{on_table, measured_as, tree_by_rules, tree_dissects}
 use Rattle.plan.proofs.Writing.{sheet_pieces, file-length}
 use Rattle.plan.proofs.Enough.{plan_enough_lem}
+use Rattle.plan.specs.declared.Written.{Written as Values}
+use Rattle.plan.specs.Planning.{Written, Refused, planned_from}
+use Rattle.std.proofs.Common.{Result, Ok, Err, IsErrAnd}
+use Rattle.refusals.specs.declared.Refusal.{Refusal}
+use Rattle.refusals.specs.Refusals.{number}
+use Rattle.refusals.proofs.Numbers.{never_zero}
 
 pub refused_answer : {r refusal : ℕ} {o : List ℕ} (bytes value : ℕ) (file : List ℕ) → r ≡ refusal → (r ≡ 0 → ⊥)
     → (Refused r ≡ planned_with refusal bytes value) × (o ≡ accepted refusal file o)
 refused_answer {r = zero} bytes value file e h = absurd (h refl)
 refused_answer {r = suc k} {o = o} bytes value file e h = (ap (λ (n : ℕ). planned_with n bytes value) e, left-as-it-was file o e h)
 
+-- So where `?` hands a refusal on.
+pub plan_left : (r : Result Values Refusal) (refusal : Refusal) (bytes value : ℕ) (file o : List ℕ) {n : ℕ} → IsErrAnd r (λ e. e ≡ refusal)
+    → number refusal ≡ n → (planned_from r ≡ planned_with n bytes value) × (o ≡ accepted n file o)
+plan_left (Ok written) refusal bytes value file o e f = absurd e
+plan_left (Err other) refusal bytes value file o e f = refused_answer bytes value file (ap number e ∙ f) (never_zero other)
+
 pub written_answer : {r refusal n v value : ℕ} {o o' : List ℕ} {file : List ℕ} → r ≡ refusal → r ≡ 0 → Wrote o 0 file n o' → v ≡ value
     → (Written n v ≡ planned_with refusal (length file) value) × (o' ≡ accepted refusal (put o 0 file) o)
 written_answer {value = value} {o = o} {file = file} e z w f =
     (ap₂ Written (omega (arith, w.place)) f ∙ ap (λ (k : ℕ). planned_with k (length file) value) (sym z ∙ e), w.bytes ∙ given (put o 0 file) o e z)
-
--- The number by the length of the nodes: there is none, or the file has room, or not.
-module _ (count nodes room : ℕ) where
-  pub file_struck : nodes ≡ 0 → alien_table ≡ file_number count nodes room
-  unfolding file_number
-  file_struck z = sym (chosen (says_eq nodes 0) _ _ z)
-
-  module _ {whole : ℕ} (some : nodes ≡ 0 → ⊥) (is : whole ≡ block_length count + nodes + trailer_length) where
-    pub file_long : room < whole → short_buffer ≡ file_number count nodes room
-    unfolding file_number
-    file_long h =
-        sym (not_chosen (says_eq nodes 0) _ _ some ∙ not_chosen (says_le (block_length count + nodes + trailer_length) room) _ _ (λ l. omega (arith, is, l, h)))
-
-    pub file_fits : whole ≤ room → 0 ≡ file_number count nodes room
-    unfolding file_number
-    file_fits h =
-        sym (not_chosen (says_eq nodes 0) _ _ some ∙ chosen (says_le (block_length count + nodes + trailer_length) room) _ _ (omega (arith, is, h)))
 
 module _ (job : Job) (t : List ℕ) (x y : ℕ) where
   -- The cell that is read, with the code's width.

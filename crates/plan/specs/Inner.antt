@@ -11,17 +11,17 @@ use Rattle.cutting.specs.Piece.{Inside}
 use Rattle.cells.specs.Box.{is_empty}
 use Rattle.cells.specs.Inner.{exceeds, any_in_box}
 use Rattle.job.specs.Inner.{within, job_in_range}
-use Rattle.desk.specs.Refusals.{cells_of, alien_table, short_buffer}
+use Rattle.refusals.specs.Refusals.{alien_table, short_buffer}
+use Rattle.desk.specs.Refusals.{cells_of}
 use Rattle.fields.specs.Format.{trailer_length}
 use Rattle.job.specs.Block.{block_length}
 use Rattle.laws.specs.Put.{put}
-use Rattle.checker.specs.declared.Checked.{Checked}
+use Rattle.checker.specs.Checked.{Checked}
 use Rattle.checker.specs.Inner.{checked}
 use Rattle.cutting.specs.Dissection.{Best}
 use Rattle.plan.specs.File.{file_of}
 use Rattle.plan.specs.Refusals.{Readable, plan_refusals}
-use Rattle.plan.specs.declared.Planned.{Planned}
-use Rattle.plan.specs.declared.Planned.TheVariants.{Written, Refused}
+use Rattle.plan.specs.Planning.{Planned, Written, Refused}
 
 -- The tree with what the board holds of the job, whether rule 6.6 strikes nowhere in it, and its
 -- file. `rules_tree` and `tree_by_rules` say that it is the tree by the rules.

@@ -9,8 +9,8 @@ ghost use Rattle.laws.specs.Inner.{Wrote};
 ghost use Rattle.fields.specs.Format.{sum_field, sum_length, file_most};
 ghost use Rattle.plan.specs.Inner.{plan_file, Ready};
 
+use crate::Written;
 use board::Board;
-use fields::cast::wide;
 use fields::format::{NODES_FIELD, SUM_FIELD, SUM_LENGTH, VALUE_FIELD};
 use fields::{put4, sum_of};
 use job::Job;
@@ -38,23 +38,17 @@ fn put_sum(o: &mut [u8], at: usize) -> usize
     at + SUM_LENGTH
 }
 
-// Writes the file of x by y, whose cell holds this value, and answers its length.
-pub fn write_file(
-    job: Job,
-    board: &Board,
-    t: &[u32],
-    x: u32,
-    y: u32,
-    value: u32,
-    o: &mut [u8],
-) -> usize
-    requires ready { Ready job t.now x y o.old × (board.now ≡ board_of job) }
-    requires value_value { value ≡ cell_of job.width t.now x y }
-    ensures { Wrote o.old 0 (plan_file job t.now x y) result o.new }
+// Writes the file of x by y, and answers its length and the number in its cell.
+pub fn write_file(job: Job, board: &Board, t: &[u32], x: u32, y: u32, o: &mut [u8]) -> Written
+    requires { Ready job t.now x y o.old × (board.now ≡ board_of job) }
+    ensures file { Wrote o.old 0 (plan_file job t.now x y) result.length o.new }
+    ensures value { result.value ≡ cell_of job.width t.now x y }
 {
-    let nodes_at = block_length(wide(job.count));
+    let value = cells::cell(t, usize::from(job.width), x as usize, y as usize);
+    let nodes_at = block_length(usize::from(job.count));
     put_block(o, x as u16, y as u16, job);
     let at = write(board, t, x as usize, y as usize, FREE, o, nodes_at);
     put_pointers(o, at, at - nodes_at, value);
-    put_sum(o, at + SUM_FIELD)
+    let length = put_sum(o, at + SUM_FIELD) as u32;
+    Written { length, value }
 }

@@ -27,7 +27,8 @@ use Rattle.job.proofs.Pieces.{pieces-length, pieces_at, pieces-job_of}
 use Rattle.job.proofs.Range.{PieceIn, RecordIn, in_range_each, new_in_range}
 use Rattle.job.proofs.Changed.{added_in_range}
 use Rattle.desk.specs.declared.Changed.{Changed}
-use Rattle.desk.specs.Refusals.{bad_piece, cells_of, Usable, open_refusals, add_refusals, AddRefusal}
+use Rattle.refusals.specs.Refusals.{bad_piece}
+use Rattle.desk.specs.Refusals.{cells_of, Usable, open_refusals, add_refusals, AddRefusal}
 use Rattle.desk.specs.Changing.{Changes, SizeFits, Opens, Adds}
 use Rattle.desk.specs.Inner.{opened, opened_cells, added_job, added_cells}
 use Rattle.desk.proofs.Exactly.{add_number}

@@ -29,7 +29,8 @@ use Rattle.job.specs.Inner.{from_block}
 use Rattle.job.proofs.Pieces.{job_of_tidy}
 use Rattle.job.proofs.Blocks.{shape_says, from_block_no, from_block_yes}
 use Rattle.desk.specs.declared.Changed.{Changed}
-use Rattle.desk.specs.Refusals.{bad_job, short_table, bad_piece, short_buffer, cells_of, Usable, open_refusals, OpenRefusal, ask_refusals, AskRefusal}
+use Rattle.refusals.specs.Refusals.{bad_job, short_table, bad_piece, short_buffer}
+use Rattle.desk.specs.Refusals.{cells_of, Usable, open_refusals, OpenRefusal, ask_refusals, AskRefusal}
 use Rattle.desk.specs.Inner.{opened, opened_cells, filled_for}
 use Rattle.desk.proofs.Exactly.{open_number, ask_number}
 use Rattle.desk.proofs.Words.{filled_for_lem}

@@ -17,7 +17,7 @@ use Rattle.job.specs.declared.Job.{Job}
 use Rattle.job.specs.Job.{pieces_of}
 use Rattle.job.specs.Inner.{from_block}
 use Rattle.job.proofs.Pieces.{pieces-length}
-use Rattle.desk.specs.Refusals.{bad_job}
+use Rattle.refusals.specs.Refusals.{bad_job}
 use Rattle.desk.specs.Inner.{filled_for}
 use Rattle.plan.specs.File.{sheet_of}
 use Rattle.plan.specs.Inner.{tree_for, plan_refused}

@@ -6,7 +6,7 @@ use Rattle.job.specs.declared.Job.{Job}
 use Rattle.job.specs.Job.{pieces_of}
 use Rattle.job.specs.Inner.{from_block}
 use Rattle.desk.specs.declared.Changed.{Changed}
-use Rattle.desk.specs.Refusals.{bad_job}
+use Rattle.refusals.specs.Refusals.{bad_job}
 use Rattle.desk.specs.Inner.{ask_refused, filled_for}
 use Rattle.plan.specs.Inner.{tree_for, plan_refused}
 use Rattle.listing.specs.Line.{head_text, refused_text}

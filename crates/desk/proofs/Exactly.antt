@@ -2,7 +2,7 @@
 use Prim.Native.Nat.{ℕ, ◌*◌, ◌≤◌}
 use mathlib.Core.Bool.{Bool, false, not, ◌&&◌, true}
 use mathlib.Core.List.{List}
-use mathlib.Core.Path.{◌≡◌, refl, sym, ap, ◌∙◌, subst}
+use mathlib.Core.Path.{◌≡◌, refl, sym, ◌∙◌, subst}
 use native.Mathlib.Omega.{arith}
 use mathlib.Core.Logic.{◌↔◌, ⊎_elim}
 use lib.Dec.{leb}
@@ -119,7 +119,3 @@ pub box_holds : (job : Job) (t : List ℕ) (x y : ℕ) {first a : ℕ} {r : Bool
     → r ≡ (within x job.width && within y job.height) → r ≡ true → a ≡ job.width → Holds a y t × (x ≤ a)
 box_holds job t x y e z f h g =
     usable_box job t x y (usable_of job t e z) ((inside_says x y job.width job.height).means (sym f ∙ h)) g
-
-pub box_test : (job : Job) (t : List ℕ) (x y : ℕ) {a : ℕ} {r : Bool} → r ≡ any_in_box x y (exceeds a t) → a ≡ job.width
-    → r ≡ any_in_box x y (exceeds job.width t)
-box_test job t x y e g = e ∙ ap (λ (m : ℕ). any_in_box x y (exceeds m t)) g

@@ -52,7 +52,7 @@ pub fn open(width: u32, height: u32, t: &mut [u32]) -> Result<Job, Refusal>
 pub fn add(job: Job, t: &mut [u32], piece: Piece) -> Result<Job, Refusal>
     ensures { AddPromise job t.old piece (changed_from job result) t.new }
 {
-    refusal::of_add(job, t, piece)?;
+    refusal::of_add(&job, t, piece)?;
     empty_size(&job, t, piece);
     Ok(job.with_added(piece))
 }
@@ -62,7 +62,7 @@ pub fn add(job: Job, t: &mut [u32], piece: Piece) -> Result<Job, Refusal>
 pub fn correct(job: Job, t: &mut [u32], number: u32, piece: Piece) -> Result<Job, Refusal>
     ensures { CorrectPromise job t.old number piece (changed_from job result) t.new }
 {
-    refusal::of_correct(job, t, number, piece)?;
+    refusal::of_correct(&job, t, number, piece)?;
     empty_size(&job, t, piece_of(&job, number));
     empty_size(&job, t, piece);
     Ok(job.with_corrected(number, piece))
@@ -73,7 +73,7 @@ pub fn correct(job: Job, t: &mut [u32], number: u32, piece: Piece) -> Result<Job
 pub fn remove(job: Job, t: &mut [u32], number: u32) -> Result<Job, Refusal>
     ensures { RemovePromise job t.old number (changed_from job result) t.new }
 {
-    refusal::of_remove(job, t, number)?;
+    refusal::of_remove(&job, t, number)?;
     empty_size(&job, t, piece_of(&job, number));
     Ok(job.with_removed(number))
 }

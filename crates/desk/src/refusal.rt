@@ -31,8 +31,8 @@ pub fn inside(x: u32, y: u32, a: u16, b: u16) -> bool
     (1..=u32::from(a)).contains(&x) && (1..=u32::from(b)).contains(&y)
 }
 
-pub fn of_job(job: Job, t: &[u32]) -> Result<(), Refusal>
-    ensures { refused result ≡ job_refused job t.now }
+pub fn of_job(job: &Job, t: &[u32]) -> Result<(), Refusal>
+    ensures { refused result ≡ job_refused job.now t.now }
 {
     if !job.in_range() {
         return Err(Refusal::BadJob);
@@ -55,8 +55,8 @@ pub(crate) fn of_open(a: u32, b: u32, t: &[u32]) -> Result<(), Refusal>
     Ok(())
 }
 
-pub(crate) fn of_add(job: Job, t: &[u32], piece: Piece) -> Result<(), Refusal>
-    ensures { refused result ≡ add_refused job t.now piece }
+pub(crate) fn of_add(job: &Job, t: &[u32], piece: Piece) -> Result<(), Refusal>
+    ensures { refused result ≡ add_refused job.now t.now piece }
 {
     of_job(job, t)?;
     if !piece.in_range() {
@@ -68,8 +68,8 @@ pub(crate) fn of_add(job: Job, t: &[u32], piece: Piece) -> Result<(), Refusal>
     Ok(())
 }
 
-pub(crate) fn of_remove(job: Job, t: &[u32], number: u32) -> Result<(), Refusal>
-    ensures { refused result ≡ remove_refused job t.now number }
+pub(crate) fn of_remove(job: &Job, t: &[u32], number: u32) -> Result<(), Refusal>
+    ensures { refused result ≡ remove_refused job.now t.now number }
 {
     of_job(job, t)?;
     if !(1..=u32::from(job.count)).contains(&number) {
@@ -78,8 +78,8 @@ pub(crate) fn of_remove(job: Job, t: &[u32], number: u32) -> Result<(), Refusal>
     Ok(())
 }
 
-pub(crate) fn of_correct(job: Job, t: &[u32], number: u32, piece: Piece) -> Result<(), Refusal>
-    ensures { refused result ≡ correct_refused job t.now number piece }
+pub(crate) fn of_correct(job: &Job, t: &[u32], number: u32, piece: Piece) -> Result<(), Refusal>
+    ensures { refused result ≡ correct_refused job.now t.now number piece }
 {
     of_remove(job, t, number)?;
     if !piece.in_range() {
@@ -88,8 +88,8 @@ pub(crate) fn of_correct(job: Job, t: &[u32], number: u32, piece: Piece) -> Resu
     Ok(())
 }
 
-pub(crate) fn of_ask(job: Job, t: &[u32], x: u32, y: u32) -> Result<(), Refusal>
-    ensures { refused result ≡ ask_refused job t.now x y }
+pub(crate) fn of_ask(job: &Job, t: &[u32], x: u32, y: u32) -> Result<(), Refusal>
+    ensures { refused result ≡ ask_refused job.now t.now x y }
 {
     of_job(job, t)?;
     if !inside(x, y, job.width, job.height) {

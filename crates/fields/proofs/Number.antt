@@ -1,17 +1,11 @@
 -- The laws of little-endian numbers: reading and writing are inverse to each other, at any place of a row.
-use Rattle.std.proofs.Common.{◌≡◌, ℕ, suc, ◌+◌, ◌*◌, ◌/◌, ◌%◌, ◌<◌, ◌≤◌, List, [], ◌∷◌, ◌++◌, length, get_or, take, drop, set, sym, refl, ap, ◌∙◌, ap₂, append_assoc, add-zero, add-one, arith, length-append, get_or-drop, drop-cons, drop-drop, take-add, drop_at}
-use lib.Seq.{sets}
+use Rattle.std.proofs.Common.{◌≡◌, ℕ, suc, ◌+◌, ◌-◌, ◌*◌, ◌/◌, ◌%◌, ◌<◌, ◌≤◌, List, [], ◌∷◌, ◌++◌, length, get_or, take, drop, sym, ap, ◌∙◌, ap₂, append_assoc, add-zero, add-one, arith, length-append, get_or-drop, drop-cons, drop-drop, take-add, drop_at}
+use borrow.Rule.Slice.PartMut.{put_mid}
+use Rattle.std.specs.Int.{w16, w32, to_le_bytes, byte_at}
 use Rattle.laws.specs.Put.{put}
-use Rattle.laws.proofs.Put.{put_sets, put_next}
+use Rattle.laws.proofs.Put.{put_next}
+pub use Rattle.fields.specs.Inner.{bytes2-length, bytes4-length, number2_bytes, number4_bytes}
 use Rattle.fields.specs.Number.{joined, joined_halves, number2_of, number4_of, bytes2, bytes4, Bytes}
-
-pub bytes2-length : (n : ℕ) → length (bytes2 n) ≡ 2
-unfolding bytes2
-bytes2-length n = refl
-
-pub bytes4-length : (n : ℕ) → length (bytes4 n) ≡ 4
-unfolding bytes2 bytes4
-bytes4-length n = refl
 
 -- A number at a place of a row is one at the start of what is left there.
 pub number2_drop : (s : List ℕ) (at : ℕ) → number2_of s at ≡ number2_of (drop at s) 0
@@ -24,24 +18,10 @@ number4_drop s at =
     ap₂ joined_halves (number2_drop s at)
     (number2_drop s (at + 2) ∙ (ap (λ (l : List ℕ). number2_of l 0) (sym (drop-drop 2 at s)) ∙ sym (number2_drop (drop at s) 2)))
 
--- The bytes of a number are read as that number.
-pub number2_bytes : (n : ℕ) (r : List ℕ) → n < 65_536 → number2_of (bytes2 n ++ r) 0 ≡ n
-unfolding number2_of bytes2
-number2_bytes n r h = omega arith
-
--- The same at a place behind p.
+-- The bytes of a number are read as that number at a place behind p.
 pub number2_behind : (p : List ℕ) (n : ℕ) (r : List ℕ) (at : ℕ) → length p ≡ at → n < 65_536 → number2_of (p ++ (bytes2 n ++ r)) at ≡ n
 number2_behind p n r at e h =
     number2_drop (p ++ (bytes2 n ++ r)) at ∙ (ap (λ (l : List ℕ). number2_of l 0) (drop_at p (bytes2 n ++ r) at e) ∙ number2_bytes n r h)
-
-pub number4_bytes : (n : ℕ) (r : List ℕ) → n < 4_294_967_296 → number4_of (bytes4 n ++ r) 0 ≡ n
-unfolding number4_of bytes4
-number4_bytes n r h =
-    let lower : number2_of (bytes2 (n % 65_536) ++ bytes2 (n / 65_536) ++ r) 0 ≡ n % 65_536 =
-    rw append_assoc (number2_bytes (n % 65_536) (bytes2 (n / 65_536) ++ r) (omega arith)) in
-    let upper : number2_of (bytes2 (n % 65_536) ++ bytes2 (n / 65_536) ++ r) 2 ≡ n / 65_536 =
-    rw append_assoc (number2_behind (bytes2 (n % 65_536)) (n / 65_536) r 2 (bytes2-length (n % 65_536)) (omega arith)) in
-    omega arith
 
 pub number4_behind : (p : List ℕ) (n : ℕ) (r : List ℕ) (at : ℕ) → length p ≡ at → n < 4_294_967_296 → number4_of (p ++ (bytes4 n ++ r)) at ≡ n
 number4_behind p n r at e h =
@@ -80,19 +60,24 @@ bytes4_number s at b h =
     ∙ (ap₂ ◌++◌ (bytes2_number s at b (omega arith)) (bytes2_number s (at + 2) b (omega arith) ∙ ap (take 2) (sym (drop-drop 2 at s)))
     ∙ sym (take-add 2 2 (drop at s)))
 
--- Two stores write a number's two bytes.
-pub put_bytes2 : (o : List ℕ) (at n : ℕ) {a b : ℕ} → at + 2 ≤ length o → a ≡ n % 256 → b ≡ n / 256 % 256 → set (set o at a) (at + 1) b ≡ put o at (bytes2 n)
-unfolding bytes2
-put_bytes2 o at n {a} {b} h e f =
-    rw add-one (ap₂ (λ (x y : ℕ). sets o at (x ∷ (y ∷ []))) e f ∙ put_sets o at (bytes2 n) h)
+-- A part that is written as long as it was.
+put_part : (o : List ℕ) (at k : ℕ) (e : List ℕ) {p : List ℕ} → k ≡ length e → p ≡ e → put_mid at k o p ≡ put o at e
+unfolding put
+put_part o at k e f g =
+    ap₂ (λ (n : ℕ) (l : List ℕ). take at o ++ (l ++ drop n (drop at o))) f g ∙ ap (λ (l : List ℕ). take at o ++ (e ++ l)) (drop-drop (length e) at o)
 
--- Two numbers of two bytes, one behind the other, are one of four.
-pub put_bytes4 : (o p q : List ℕ) (at n : ℕ) {a b : ℕ} → at + 2 ≤ length o → a ≡ n % 65_536 → b ≡ n / 65_536 → p ≡ put o at (bytes2 a)
-    → q ≡ put p (at + 2) (bytes2 b) → q ≡ put o at (bytes4 n)
-unfolding bytes4
-put_bytes4 o p q at n {a} {b} h e f g i =
-    put_next o at (bytes2 a) (bytes2 b) (omega (arith, bytes2-length a)) (omega (arith, bytes2-length a)) g i
-    ∙ ap₂ (λ (x y : ℕ). put o at (bytes2 x ++ bytes2 y)) e f
+pub put_bytes2 : (o : List ℕ) (at n : ℕ) {p : List ℕ} → p ≡ to_le_bytes w16 n → put_mid at (at + 2 - at) o p ≡ put o at (bytes2 n)
+unfolding bytes2
+put_bytes2 o at n e = put_part o at (at + 2 - at) (bytes2 n) (omega arith) e
+
+pub put_bytes4 : (o : List ℕ) (at n : ℕ) {p : List ℕ} → p ≡ to_le_bytes w32 n → put_mid at (at + 4 - at) o p ≡ put o at (bytes4 n)
+unfolding bytes2 bytes4
+put_bytes4 o at n e =
+    let first : byte_at 0 n ≡ n % 65_536 % 256 = omega arith in
+    let second : byte_at 1 n ≡ n % 65_536 / 256 % 256 = omega arith in
+    let fourth : byte_at 3 n ≡ n / 65_536 / 256 % 256 = omega arith in
+    let same : to_le_bytes w32 n ≡ bytes4 n = λ i. first i ∷ (second i ∷ (byte_at 2 n ∷ (fourth i ∷ []))) in
+    put_part o at (at + 4 - at) (bytes4 n) (omega arith) (e ∙ same)
 
 -- Three numbers of k bytes each, one behind the other.
 pub put_three : (k : ℕ) (bytes : ℕ → List ℕ) → ((n : ℕ) → length (bytes n) ≡ k) → (o : List ℕ) (at a b d : ℕ) {p q r : List ℕ}

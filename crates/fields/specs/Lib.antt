@@ -2,3 +2,4 @@
 pub mod Format
 pub mod Number
 pub mod Sum
+pub mod Inner

@@ -1,84 +1,84 @@
 // The fields of a plan file: little-endian numbers of two and four bytes, read and written, and the running sum.
 #![tactic(auto)]
 
-ghost use Rattle.std.specs.Prelude.{◌≡◌, ◌+◌, ◌/◌, ◌%◌, ◌≤◌, length};
+ghost use Rattle.std.specs.Prelude.{◌≡◌, ℕ, List, ◌++◌, ◌+◌, ◌<◌, ◌≤◌, length};
 ghost use Rattle.laws.specs.Put.{put};
-ghost use Rattle.fields.specs.Number.{joined, joined_halves, number2_of, number4_of, bytes2, bytes4};
+ghost use Rattle.fields.specs.Number.{number2_of, number4_of, bytes2, bytes4};
 ghost use Rattle.fields.specs.Sum.{sum_step, running_sum, sum_of};
+ghost use Rattle.fields.specs.Inner.{bytes2-length, bytes4-length, number2_bytes, number4_bytes};
 
 pub mod cast;
 pub mod format;
 
-// The number of two bytes.
-fn join(low: u8, high: u8) -> u16
-    ensures { result ≡ joined low high }
-{
-    low as u16 + high as u16 * 256
+// A number in a plan file (rule 8.1).
+pub trait Field: Copy {
+    // How many bytes it has.
+    ghost bytes_long: { ℕ };
+
+    // The number that stands at a place, and the bytes of a number.
+    ghost number_of: { List ℕ → ℕ → Self };
+
+    ghost bytes_of: { Self → List ℕ };
+
+    // It fits its bytes.
+    ghost fits: { Self → Type 0 };
+
+    fn read(s: &[u8], at: usize) -> Self
+        requires { at + bytes_long ≤ length s.now }
+        ensures { result ≡ number_of s.now at };
+
+    fn put(self, o: &mut [u8], at: usize)
+        requires { at + bytes_long ≤ length o.old }
+        ensures { o.new ≡ put o.old at (bytes_of self) };
+
+    ghost bytes_of_length: { (n : Self) → length (bytes_of n) ≡ bytes_long };
+
+    // A number's bytes are read as that number.
+    ghost bytes_read: { (n : Self) (r : List ℕ) → fits n → number_of (bytes_of n ++ r) 0 ≡ n };
 }
 
-// The number of four bytes, by its halves.
-fn join_halves(low: u16, high: u16) -> u32
-    ensures { result ≡ joined_halves low high }
-{
-    low as u32 + high as u32 * 65_536
+impl Field for u16 {
+    ghost bytes_long = { 2 };
+
+    ghost number_of = { number2_of };
+
+    ghost bytes_of = { bytes2 };
+
+    ghost fits = { λ n. n < 65_536 };
+
+    ghost bytes_of_length = { bytes2-length };
+
+    ghost bytes_read = { number2_bytes };
+
+    fn read(s: &[u8], at: usize) -> u16 {
+        u16::from_le_bytes([s[at], s[at + 1]])
+    }
+
+    fn put(self, o: &mut [u8], at: usize) {
+        o[at..at + 2].copy_from_slice(&self.to_le_bytes());
+    }
 }
 
-fn low(n: u16) -> u8
-    ensures { result ≡ n % 256 }
-{
-    (n % 256) as u8
-}
+impl Field for u32 {
+    ghost bytes_long = { 4 };
 
-fn high(n: u16) -> u8
-    ensures { result ≡ n / 256 % 256 }
-{
-    (n / 256) as u8
-}
+    ghost number_of = { number4_of };
 
-fn lower_half(n: u32) -> u16
-    ensures { result ≡ n % 65_536 }
-{
-    (n % 65_536) as u16
-}
+    ghost bytes_of = { bytes4 };
 
-fn upper_half(n: u32) -> u16
-    ensures { result ≡ n / 65_536 }
-{
-    (n / 65_536) as u16
-}
+    ghost fits = { λ n. n < 4_294_967_296 };
 
-// The number of two bytes that stands at a place.
-pub fn number2(s: &[u8], at: usize) -> u16
-    requires { at + 2 ≤ length s.now }
-    ensures { result ≡ number2_of s.now at }
-{
-    join(s[at], s[at + 1])
-}
+    ghost bytes_of_length = { bytes4-length };
 
-// The number of four bytes that stands at a place.
-pub fn number4(s: &[u8], at: usize) -> u32
-    requires { at + 4 ≤ length s.now }
-    ensures { result ≡ number4_of s.now at }
-{
-    join_halves(number2(s, at), number2(s, at + 2))
-}
+    ghost bytes_read = { number4_bytes };
 
-// Writes a number's two bytes at a place.
-pub fn put2(o: &mut [u8], at: usize, n: u16)
-    requires { at + 2 ≤ length o.old }
-    ensures { o.new ≡ put o.old at (bytes2 n) }
-{
-    o[at] = low(n);
-    o[at + 1] = high(n);
-}
+    fn read(s: &[u8], at: usize) -> u32 {
+        u32::from_le_bytes([s[at], s[at + 1], s[at + 2], s[at + 3]])
+    }
 
-// Writes a number's four bytes at a place.
-pub fn put4(o: &mut [u8], at: usize, n: u32)
-    requires { at + 4 ≤ length o.old }
-    ensures { o.new ≡ put o.old at (bytes4 n) }
-{
-    put2(o, at, lower_half(n));
-    put2(o, at + 2, upper_half(n));
+    fn put(self, o: &mut [u8], at: usize) {
+        o[at..at + 4].copy_from_slice(&self.to_le_bytes());
+    }
 }
 
 const SUM_START: u32 = 1;
@@ -87,9 +87,7 @@ const SUM_START: u32 = 1;
 fn sum_step(sum: u32, byte: u8) -> u32
     ensures { result ≡ sum_step sum byte }
 {
-    let twice = std::num::wrapping_add_u32(sum, sum);
-    let thrice = std::num::wrapping_add_u32(twice, sum);
-    std::num::wrapping_add_u32(thrice, byte as u32)
+    sum.wrapping_mul(3).wrapping_add(u32::from(byte))
 }
 
 // What a sum that stands at start becomes over the bytes of s, from the first to the last.
@@ -97,8 +95,8 @@ fn sum_over(start: u32, s: &[u8]) -> u32
     ensures { result ≡ running_sum start s.now }
 {
     let mut sum = start;
-    for k in 0..s.len() {
-        sum = sum_step(sum, s[k]);
+    for byte in s {
+        sum = sum_step(sum, *byte);
     }
     sum
 }

@@ -1,18 +1,21 @@
 -- The laws of the job block: its length, how it is written piece by piece, and that reading and writing are inverse.
-use Prim.Native.Nat.{ℕ, zero, suc, ◌+◌, ◌*◌, ◌≤◌, ◌<◌}
-use mathlib.Core.Bool.{Bool, true, false, cond}
+use Rattle.std.specs.Prelude.{Some, None}
+use Rattle.std.proofs.lemmas.Option.{cond_some, none-some}
+use Rattle.std.proofs.lemmas.List.{drop-replicate, get_or-take}
+use Prim.Native.Nat.{ℕ, zero, suc, ◌+◌, ◌-◌, ◌*◌, ◌≤◌, ◌<◌}
+use mathlib.Core.Bool.{Bool, cond}
 use mathlib.Core.Path.{◌≡◌, refl, sym, ap, ap₂, subst, ◌∙◌}
 use mathlib.Core.Logic.{◌⊎◌, inl, inr}
 use mathlib.Core.List.{List, [], ◌∷◌, ◌++◌, append_assoc, append-nil}
 use native.Mathlib.Omega.{arith}
-use lib.ListN.{length, get_or, take, drop, length-append, length-drop, take-append-drop, get_or-eq_default}
+use lib.ListN.{length, replicate, get_or, take, drop, length-append, length-drop, take-append-drop, get_or-eq_default}
 use native.Mathlib.Nat.{add-zero}
 use lib.Seq.{drop-drop, drop-nil, drop-append-add, take-add, drop-cons, take_all, drop_at}
-use Rattle.laws.specs.Inner.{Says, filled_row}
+use Rattle.laws.specs.Inner.{Says}
 use Rattle.laws.specs.ByIndex.{by_index}
 use Rattle.laws.specs.Put.{put}
 use Rattle.laws.proofs.Order.{le_or_lt}
-use Rattle.laws.proofs.Says.{says_le, says_eq, says_and, says_iff}
+use Rattle.laws.proofs.Says.{says_le, says_eq, says_and, says_iff, says_no}
 use Rattle.laws.proofs.ByIndex.{by_index-length, by_index_at, by_index_more, by_index_same, is_by_index}
 use Rattle.laws.proofs.Put.{put_none, put_next}
 use Rattle.fields.specs.Number.{number2_of, bytes2, Bytes}
@@ -21,14 +24,13 @@ use Rattle.cutting.specs.Limits.{pieces_max}
 use Rattle.cutting.specs.Piece.{Piece, no_piece}
 use Rattle.job.specs.declared.Piece.{Piece as Record}
 use Rattle.job.specs.declared.Job.{Job}
-use Rattle.job.specs.declared.Blocked.{Blocked}
-use Rattle.job.specs.Job.{piece_of, record_of, no_record, pieces_of, job_of, zero_job, Tidy}
-use Rattle.job.specs.Inner.{block_shape, from_block}
+use Rattle.job.specs.Job.{piece_of, record_of, no_record, pieces_of, job_of, Tidy}
+use Rattle.job.specs.Inner.{records_of, block_shape, from_block}
 use Rattle.job.specs.Block.{InFields, block_length, bytes_of_piece, bytes_of_pieces, bytes_of_head, block, block_of, count_in, piece_from, piece_in, job_in, BlockShape}
 use Rattle.fields.specs.Format.{head_bytes, piece_bytes}
 use Rattle.job.specs.Range.{JobInRange}
 use Rattle.job.proofs.Range.{in_range_each}
-use Rattle.job.proofs.Pieces.{pieces-length, is_job_of, pieces-job_of}
+use Rattle.job.proofs.Pieces.{pieces-length, is_job_of, are_records, pieces-job_of}
 
 -- Lengths.
 
@@ -64,11 +66,16 @@ pub put_pieces_none : (o : List ℕ) (piece : ℕ → Piece) → o ≡ put o hea
 unfolding bytes_of_pieces by_index
 put_pieces_none o piece = sym (put_none o head_bytes)
 
-pub put_pieces_end : (o : List ℕ) (job : Job) {n : ℕ} {p : List ℕ}
-    → p ≡ put o head_bytes (bytes_of_pieces (by_index (λ k. piece_of (get_or job.pieces k no_record)) n)) → n ≡ job.count
+pub put_pieces_end : (o : List ℕ) (job : Job) {items : List Record} {n : ℕ} {p : List ℕ}
+    → p ≡ put o head_bytes (bytes_of_pieces (by_index (λ k. piece_of (get_or items k no_record)) n)) → items ≡ take job.count job.pieces → n ≡ job.count
     → p ≡ put o head_bytes (bytes_of_pieces (pieces_of job))
 unfolding pieces_of
-put_pieces_end o job e f = e ∙ ap (λ (n : ℕ). put o head_bytes (bytes_of_pieces (by_index (λ k. piece_of (get_or job.pieces k no_record)) n))) f
+put_pieces_end o job {items} {n} e f g =
+    let same : by_index (λ k. piece_of (get_or items k no_record)) n ≡ by_index (λ k. piece_of (get_or job.pieces k no_record)) n =
+    by_index_same (λ k. piece_of (get_or items k no_record)) (λ k. piece_of (get_or job.pieces k no_record)) n
+    (λ k l. ap piece_of (ap (λ (r : List Record). get_or r k no_record) f ∙ get_or-take job.count job.pieces k no_record (omega arith))) in
+    e
+    ∙ ap (λ (l : List Piece). put o head_bytes (bytes_of_pieces l)) (same ∙ ap (by_index (λ k. piece_of (get_or job.pieces k no_record))) g)
 
 -- One piece more behind those that are written.
 pub put_piece_more : (o : List ℕ) (piece : ℕ → Piece) (k : ℕ) {p q : List ℕ} {at : ℕ} → block_length k ≤ length o → at ≡ block_length k
@@ -106,26 +113,46 @@ pub piece_in_lem : (s : List ℕ) (k : ℕ) {at : ℕ} {r : Record} → at ≡ b
 piece_in_lem s k e f = f ∙ ap (λ (at : ℕ). record_of (piece_from s at)) e
 
 -- A block is read by whether it has the shape.
-from_block_by : (s : List ℕ) {b : Bool} → block_shape s ≡ b → from_block s ≡ cond b (record { ok = true; job = job_in s }) (record { ok = false; job = zero_job })
+from_block_by : (s : List ℕ) {b : Bool} → block_shape s ≡ b → from_block s ≡ cond b (Some (job_in s)) None
 unfolding from_block
-from_block_by s e = ap (λ (b : Bool). cond b (record { ok = true; job = job_in s }) (record { ok = false; job = zero_job })) e
+from_block_by s e = ap (λ (b : Bool). cond b (Some (job_in s)) None) e
 
-pub from_block_no : (s : List ℕ) {b : Bool} {job : Job} → b ≡ block_shape s → b ≡ false → job ≡ zero_job
-    → ◌≡◌ {A = Blocked} (record { ok = false; job = job }) (from_block s)
-from_block_no s e h f = ap (λ (j : Job). record { ok = false; job = j }) f ∙ sym (from_block_by s (sym e ∙ h))
+pub from_block_no : (s : List ℕ) → (BlockShape s → ⊥) → None ≡ from_block s
+from_block_no s h = sym (from_block_by s (says_no (shape_says s) h))
 
-pub from_block_yes : (s : List ℕ) {b : Bool} {job : Job} → b ≡ block_shape s → b ≡ true → job ≡ job_in s
-    → ◌≡◌ {A = Blocked} (record { ok = true; job = job }) (from_block s)
-from_block_yes s e h f = ap (λ (j : Job). record { ok = true; job = j }) f ∙ sym (from_block_by s (sym e ∙ h))
+pub from_block_yes : (s : List ℕ) {job : Job} → BlockShape s → job ≡ job_in s → Some job ≡ from_block s
+from_block_yes s h e = ap Some e ∙ sym (from_block_by s ((shape_says s).found h))
+
+-- What the answer tells.
+pub from_block_some : (s : List ℕ) {job : Job} → Some job ≡ from_block s → BlockShape s × (job ≡ job_in s)
+unfolding from_block
+from_block_some s {job} e =
+    let h = cond_some (block_shape s) (job_in s) job (sym e) in
+    ((shape_says s).means h.0, sym h.1)
+
+pub from_block_none : (s : List ℕ) → None ≡ from_block s → BlockShape s → ⊥
+from_block_none s e h = none-some (job_in s) (e ∙ sym (from_block_yes s h refl))
+
+-- The records that are read, and those behind them.
+pub records_read : (s : List ℕ) (count : ℕ) (front back : List Record) → count ≤ pieces_max → length front ≡ count
+    → ((k : ℕ) → k < count → get_or front k no_record ≡ record_of (piece_in s k)) → back ≡ replicate (pieces_max - count) no_record
+    → front ++ back ≡ records_of (by_index (piece_in s) count)
+records_read s count front back h e f g =
+    let long : length (by_index (piece_in s) count) ≡ count = by_index-length (piece_in s) count in
+    are_records (by_index (piece_in s) count) front back (omega arith) (omega arith)
+    (λ k l. let below : k < count = omega arith in f k below ∙ ap record_of (sym (by_index_at (piece_in s) count k no_piece below)))
+    (g ∙ ap (λ (n : ℕ). replicate (pieces_max - n) no_record) (sym long))
+
+pub zeros_left : (n k : ℕ) {zero : Record} → zero ≡ no_record → drop k (replicate n zero) ≡ replicate (n - k) no_record
+zeros_left n k e = drop-replicate k n _ ∙ ap (replicate (n - k)) e
 
 pub job_in_done : (s : List ℕ) {w h n : ℕ} {records : List Record} → w ≡ number2_of s 0 → h ≡ number2_of s 2 → n ≡ count_in s
-    → records ≡ filled_row (λ k. record_of (piece_in s k)) no_record n pieces_max
+    → records ≡ records_of (by_index (piece_in s) n)
     → ◌≡◌ {A = Job} (record { width = w; height = h; count = n; pieces = records }) (job_in s)
 unfolding job_in
 job_in_done s {w} {h} {n} {records} e f g i =
     let pieces : List Piece = by_index (piece_in s) (count_in s) in
-    is_job_of w h n pieces records (λ k. record_of (piece_in s k)) (g ∙ sym (by_index-length (piece_in s) (count_in s))) i
-    (λ k l. ap record_of (sym (by_index_at (piece_in s) (count_in s) k no_piece (omega arith))))
+    is_job_of w h n pieces (g ∙ sym (by_index-length (piece_in s) (count_in s))) (i ∙ ap (λ (k : ℕ). records_of (by_index (piece_in s) k)) g)
     ∙ ap₂ (λ (a b : ℕ). job_of a b pieces) e f
 
 -- Reading and writing are inverse: three numbers behind one another, a piece, the pieces, the block.
@@ -231,8 +258,8 @@ module _ (width height : ℕ) (pieces : List Piece) (fits : InFields width heigh
       λ i. job_of (width_read i) (height_read i) (read i)
 
   -- Read back, it is accepted.
-  pub from_block_of_block : from_block bytes ≡ record { ok = true; job = job_of width height pieces }
-  from_block_of_block = sym (from_block_yes bytes {b = true} (sym ((shape_says bytes).found block_shape_lem)) refl (sym block_read))
+  pub from_block_of_block : from_block bytes ≡ Some (job_of width height pieces)
+  from_block_of_block = sym (from_block_yes bytes block_shape_lem (sym block_read))
 
 -- No two jobs have the same block.
 pub block_injective : (a b : ℕ) (s : List Piece) (c d : ℕ) (t : List Piece) → InFields a b s → InFields c d t → block a b s ≡ block c d t

@@ -1,16 +1,15 @@
 -- The laws of the changed job: what stands at each number after an addition, a correction, a removal, and the job that has it.
 use Prim.Native.Nat.{ℕ, ◌+◌, ◌-◌, ◌≤◌, ◌<◌}
-use mathlib.Core.Bool.{Bool, cond}
-use mathlib.Core.Path.{◌≡◌, refl, sym, ap, ◌∙◌, subst}
+use mathlib.Core.Path.{◌≡◌, sym, ap, ◌∙◌, subst}
 use mathlib.Core.Logic.{◌⊎◌, inl, inr, ⊎_elim}
 use mathlib.Core.List.{List, [], ◌∷◌, ◌++◌}
 use native.Mathlib.Omega.{arith}
-use lib.ListN.{length, get_or, set, take, drop, length-append, length-drop, length-set, get_or-append}
-use lib.Seq.{get_or-append_seam, get_or-append-add, get_or-take, get_or-drop, get_or-set_same, get_or-set_other, length-take-le}
-use borrow.Author.Tests.{lt-ltb, le-ltb}
-use Rattle.laws.specs.Inner.{filled_row}
+use lib.ListN.{length, get_or, set, take, drop, length-append, length-drop, length-set, get_or-append, get_or-eq_default}
+use lib.Seq.{get_or-append_seam, get_or-take, get_or-drop, get_or-set_same, get_or-set_other, length-take-le}
 use Rattle.laws.proofs.Order.{le_or_lt, last_or_below, eq_or_not}
-use Rattle.laws.proofs.Filled.{filled_more, filled_same, filled_set, filled_end}
+use Rattle.laws.proofs.ByIndex.{is_by_index}
+use Rattle.std.specs.List.{SameBelow}
+use Rattle.std.proofs.lemmas.List.{get_or-append_right}
 use Rattle.cutting.specs.Piece.{Piece, no_piece}
 use Rattle.cutting.specs.Limits.{pieces_max}
 use Rattle.cutting.specs.Change.{added, corrected, removed}
@@ -18,25 +17,9 @@ use Rattle.job.specs.declared.Piece.{Piece as Record}
 use Rattle.job.specs.declared.Job.{Job}
 use Rattle.job.specs.Job.{piece_of, record_of, no_record, pieces_of, job_of}
 use Rattle.job.specs.Change.{with_added, with_corrected, with_removed}
-use Rattle.job.specs.Inner.{moved_from}
 use Rattle.job.specs.Range.{JobInRange}
 use Rattle.job.proofs.Range.{PieceIn, RecordIn, in_range_each, each_in_range, job_of_in_range}
-use Rattle.job.proofs.Pieces.{pieces-length, record_at_lem, pieces-job_of, is_job_of}
-
-pub moved_low : (gap k : ℕ) → k < gap → moved_from gap k ≡ k
-unfolding moved_from
-moved_low gap k h = ap (λ (b : Bool). cond b k (k + 1)) (lt-ltb k gap h)
-
-pub moved_high : (gap k : ℕ) → gap ≤ k → moved_from gap k ≡ k + 1
-unfolding moved_from
-moved_high gap k h = ap (λ (b : Bool). cond b k (k + 1)) (le-ltb k gap h)
-
-pub moved_below : (gap k : ℕ) → moved_from gap k ≤ k + 1
-moved_below gap k = ⊎_elim (λ h. omega (arith, moved_high gap k h)) (λ h. omega (arith, moved_low gap k h)) (le_or_lt gap k)
-
--- Whichever record is left out, fewer than 64 come from the 64.
-pub moved_fits : (gap count : ℕ) → count < pieces_max → (k : ℕ) → k < count → moved_from gap k < pieces_max
-moved_fits gap count h k l = omega (arith, moved_below gap k)
+use Rattle.job.proofs.Pieces.{pieces-length, pieces_at, pieces-job_of, is_job_of, records_set}
 
 -- The lists of pieces, number by number.
 module _ (pieces : List Piece) where
@@ -47,6 +30,18 @@ module _ (pieces : List Piece) where
   pub added_at : (new : Piece) (k : ℕ) → k < length pieces → get_or (added pieces new) k no_piece ≡ get_or pieces k no_piece
   unfolding added
   added_at new k h = get_or-append pieces (new ∷ []) no_piece k h
+
+  pub added_other : (new : Piece) (k : ℕ) → (k ≡ length pieces → ⊥) → get_or (added pieces new) k no_piece ≡ get_or pieces k no_piece
+  unfolding added
+  added_other new k h = ⊎_elim behind (added_at new k) (le_or_lt (length pieces) k)
+    where
+      last_or_more : length pieces ≤ k → (k ≡ length pieces) ⊎ (length pieces < k)
+      last_or_more l = ⊎_elim (λ q. inl (omega arith)) (λ q. inr q) (le_or_lt k (length pieces))
+
+      behind : length pieces ≤ k → get_or (pieces ++ (new ∷ [])) k no_piece ≡ get_or pieces k no_piece
+      behind l =
+          let more : length pieces < k = ⊎_elim (λ q. absurd (h q)) (λ q. q) (last_or_more l) in
+          get_or-eq_default (pieces ++ (new ∷ [])) no_piece (omega (arith, length-append pieces (new ∷ []))) ∙ sym (get_or-eq_default pieces no_piece l)
 
   pub added_last : (new : Piece) → get_or (added pieces new) (length pieces) no_piece ≡ new
   unfolding added
@@ -72,91 +67,77 @@ module _ (pieces : List Piece) where
     unfolding removed
     removed-length = simp (length-append, length-drop) (omega (arith, front_length))
 
-    pub removed_at : (k : ℕ) → get_or (removed pieces number) k no_piece ≡ get_or pieces (moved_from (number - 1) k) no_piece
+    pub removed_before : (k : ℕ) → k < number - 1 → get_or (removed pieces number) k no_piece ≡ get_or pieces k no_piece
     unfolding removed
-    removed_at k = ⊎_elim behind before (le_or_lt (number - 1) k)
-      where
-        before : k < number - 1 → get_or (take (number - 1) pieces ++ drop number pieces) k no_piece ≡ get_or pieces (moved_from (number - 1) k) no_piece
-        before h =
-            let inside : k < length (take (number - 1) pieces) = omega (arith, front_length) in
-            get_or-append (take (number - 1) pieces) (drop number pieces) no_piece k inside
-            ∙ (get_or-take (number - 1) pieces k no_piece h ∙ ap (λ (i : ℕ). get_or pieces i no_piece) (sym (moved_low (number - 1) k h)))
+    removed_before k h =
+        get_or-append (take (number - 1) pieces) (drop number pieces) no_piece k (omega (arith, front_length)) ∙ get_or-take (number - 1) pieces k no_piece h
 
-        behind : number - 1 ≤ k → get_or (take (number - 1) pieces ++ drop number pieces) k no_piece ≡ get_or pieces (moved_from (number - 1) k) no_piece
-        behind h =
-            let j : ℕ = k - (number - 1) in
-            let split : k ≡ length (take (number - 1) pieces) + j = omega (arith, front_length) in
-            let place : number + j ≡ moved_from (number - 1) k = omega (arith, moved_high (number - 1) k h) in
-            ap (λ (i : ℕ). get_or (take (number - 1) pieces ++ drop number pieces) i no_piece) split
-            ∙ (get_or-append-add (take (number - 1) pieces) (drop number pieces) j no_piece
-            ∙ (get_or-drop number pieces j no_piece ∙ ap (λ (i : ℕ). get_or pieces i no_piece) place))
+    -- Those behind come one number earlier.
+    pub removed_behind : (k : ℕ) → number - 1 ≤ k → get_or (removed pieces number) k no_piece ≡ get_or pieces (k + 1) no_piece
+    unfolding removed
+    removed_behind k h =
+        get_or-append_right (take (number - 1) pieces) (drop number pieces) (number - 1) k no_piece front_length h
+        ∙ (get_or-drop number pieces (k - (number - 1)) no_piece ∙ ap (λ (i : ℕ). get_or pieces i no_piece) (omega arith))
 
--- The records that the code keeps, and the job that it makes of them.
-module _ (job : Job) where
-  abbrev from : ℕ → ℕ → Record
-  from gap k = get_or job.pieces (moved_from gap k) no_record
+-- The job that the code makes of a tidied one.
+module _ (job : Job) {tidy : Job} (e : tidy ≡ job_of job.width job.height (pieces_of job)) where
+  pub tidied_count : tidy.count ≡ job.count
+  unfolding job_of
+  tidied_count = ap (λ (j : Job). j.count) e ∙ pieces-length job
 
-  -- No piece is left out: the first records as they stand.
-  kept_as_is : (gap k : ℕ) → k < gap → k < job.count → from gap k ≡ record_of (get_or (pieces_of job) k no_piece)
-  kept_as_is gap k h l = ap (λ (i : ℕ). get_or job.pieces i no_record) (moved_low gap k h) ∙ record_at_lem job k l
-
-  pub added_done : (new : Record) {n : ℕ} {kept : List Record} → job.count < pieces_max → n ≡ job.count → kept ≡ filled_row (from n) no_record n pieces_max
-      → ◌≡◌ {A = Job} (record { width = job.width; height = job.height; count = job.count + 1; pieces = set kept n new }) (with_added job new)
-  unfolding with_added
-  added_done new {n} {kept} room e f =
+  pub added_done : (new : Record) {n : ℕ} → job.count < pieces_max → n ≡ job.count
+      → ◌≡◌ {A = Job} (record { width = tidy.width; height = tidy.height; count = tidy.count + 1; pieces = set tidy.pieces n new }) (with_added job new)
+  unfolding with_added job_of
+  added_done new {n} room f =
       let pieces : List Piece = pieces_of job in
-      let after : ℕ → Record = λ k. record_of (get_or (added pieces (piece_of new)) k no_piece) in
-      let long : length pieces ≡ job.count = pieces-length job in
-      let same : filled_row (from n) no_record n pieces_max ≡ filled_row after no_record n pieces_max =
-      filled_same (from n) after no_record n pieces_max
-      (λ k l. kept_as_is n k l (omega arith) ∙ ap record_of (sym (added_at pieces (piece_of new) k (omega arith)))) in
-      let last : new ≡ after n =
-      ap record_of (sym (ap (λ (i : ℕ). get_or (added pieces (piece_of new)) i no_piece) (e ∙ sym long) ∙ added_last pieces (piece_of new))) in
-      let rows : set kept n new ≡ filled_row after no_record (n + 1) pieces_max = filled_more after no_record n pieces_max (omega arith) (f ∙ same) last in
-      is_job_of job.width job.height (job.count + 1) (added pieces (piece_of new)) (set kept n new) after
-      (omega (arith, added-length pieces (piece_of new)))
-      (rows ∙ ap (λ (i : ℕ). filled_row after no_record i pieces_max) (omega arith))
-      (λ k l. refl)
+      let long : length pieces ≡ n = pieces-length job ∙ sym f in
+      ap (λ (j : Job). record { width = j.width; height = j.height; count = j.count + 1; pieces = set j.pieces n new }) e
+      ∙ is_job_of job.width job.height (length pieces + 1) (added pieces (piece_of new)) (sym (added-length pieces (piece_of new)))
+      (records_set pieces (added pieces (piece_of new)) n new (omega arith)
+      (ap record_of (sym (ap (λ (i : ℕ). get_or (added pieces (piece_of new)) i no_piece) (sym long) ∙ added_last pieces (piece_of new))))
+      (λ k other. sym (added_other pieces (piece_of new) k (λ q. other (q ∙ long)))))
 
-  pub corrected_done : (number : ℕ) (new : Record) {n : ℕ} {kept : List Record} → job.count ≤ pieces_max → 1 ≤ number → number ≤ job.count
-      → n ≡ job.count → kept ≡ filled_row (from pieces_max) no_record n pieces_max
-      → ◌≡◌ {A = Job} (record { width = job.width; height = job.height; count = job.count; pieces = set kept (number - 1) new })
+  pub corrected_done : (number : ℕ) (new : Record) → job.count ≤ pieces_max → 1 ≤ number → number ≤ job.count
+      → ◌≡◌ {A = Job} (record { width = tidy.width; height = tidy.height; count = tidy.count; pieces = set tidy.pieces (number - 1) new })
       (with_corrected job number new)
-  unfolding with_corrected
-  corrected_done number new {n} {kept} room first last e f =
+  unfolding with_corrected job_of
+  corrected_done number new room first last =
       let pieces : List Piece = pieces_of job in
-      let after : ℕ → Record = λ k. record_of (get_or (corrected pieces number (piece_of new)) k no_piece) in
       let long : length pieces ≡ job.count = pieces-length job in
-      let rows : set kept (number - 1) new ≡ filled_row after no_record n pieces_max =
-      ap (λ (l : List Record). set l (number - 1) new) f
-      ∙ filled_set (from pieces_max) after no_record (number - 1) n pieces_max new (omega arith) (omega arith)
+      ap (λ (j : Job). record { width = j.width; height = j.height; count = j.count; pieces = set j.pieces (number - 1) new }) e
+      ∙ is_job_of job.width job.height (length pieces) (corrected pieces number (piece_of new)) (sym (corrected-length pieces number (piece_of new)))
+      (records_set pieces (corrected pieces number (piece_of new)) (number - 1) new (omega arith)
       (ap record_of (sym (corrected_same pieces number (piece_of new) (omega arith))))
-      (λ k l other. kept_as_is pieces_max k (omega arith) (omega arith) ∙ ap record_of (sym (corrected_other pieces number (piece_of new) k other))) in
-      is_job_of job.width job.height job.count (corrected pieces number (piece_of new)) (set kept (number - 1) new) after
-      (omega (arith, corrected-length pieces number (piece_of new)))
-      (filled_end after no_record pieces_max rows e)
-      (λ k l. refl)
+      (λ k other. sym (corrected_other pieces number (piece_of new) k other)))
 
-  pub removed_done : (number : ℕ) {n : ℕ} {kept : List Record} → job.count ≤ pieces_max → 1 ≤ number → number ≤ job.count
-      → n ≡ job.count - 1 → kept ≡ filled_row (from (number - 1)) no_record n pieces_max
-      → ◌≡◌ {A = Job} (record { width = job.width; height = job.height; count = job.count - 1; pieces = kept }) (with_removed job number)
-  unfolding with_removed
-  removed_done number {n} {kept} room first last e f =
-      let pieces : List Piece = pieces_of job in
-      let long : length pieces ≡ job.count = pieces-length job in
-      let below : number ≤ length pieces = omega arith in
-      is_job_of job.width job.height (job.count - 1) (removed pieces number) kept (from (number - 1))
-      (omega (arith, removed-length pieces number first below))
-      (filled_end (from (number - 1)) no_record pieces_max f e)
-      (λ k l. let inside : moved_from (number - 1) k < job.count = omega (arith, moved_below (number - 1) k) in
-      record_at_lem job (moved_from (number - 1) k) inside ∙ ap record_of (sym (removed_at pieces number first below k)))
+-- The job whose records behind one of them were moved one number down.
+pub removed_done : (job : Job) (number : ℕ) (records : List Record) {n : ℕ} {r : Job} → 1 ≤ number → number ≤ job.count → n ≡ job.count - 1
+    → SameBelow job.pieces records (number - 1)
+    → ((k : ℕ) → number - 1 ≤ k → k < n → get_or records k no_record ≡ get_or job.pieces (k + 1) no_record)
+    → r ≡ job_of job.width job.height (pieces_of (record { width = job.width; height = job.height; count = n; pieces = records }))
+    → r ≡ with_removed job number
+unfolding with_removed pieces_of
+removed_done job number records {n} first last few before behind e =
+    e ∙ ap (job_of job.width job.height) same
+  where
+    after : Job
+    after = record { width = job.width; height = job.height; count = n; pieces = records }
 
--- One more record kept.
-pub kept_more : (records : List Record) (gap k : ℕ) {kept : List Record} {place : ℕ} → k < pieces_max
-    → kept ≡ filled_row (λ i. get_or records (moved_from gap i) no_record) no_record k pieces_max → place ≡ moved_from gap k
-    → set kept k (get_or records place no_record) ≡ filled_row (λ i. get_or records (moved_from gap i) no_record) no_record (k + 1) pieces_max
-kept_more records gap k h e f =
-    filled_more (λ i. get_or records (moved_from gap i) no_record) no_record k pieces_max h e (ap (λ (i : ℕ). get_or records i no_record) f)
+    last_length : number ≤ length (pieces_of job)
+    last_length = omega (arith, pieces-length job)
+
+    piece_at : (k : ℕ) → k < n → piece_of (get_or records k no_record) ≡ get_or (removed (pieces_of job) number) k no_piece
+    piece_at k l =
+        ⊎_elim
+        (λ h. ap piece_of (behind k h l) ∙ (sym (pieces_at job (k + 1) (omega arith)) ∙ sym (removed_behind (pieces_of job) number first last_length k h)))
+        (λ h. ap piece_of (before k no_record h) ∙ (sym (pieces_at job k (omega arith)) ∙ sym (removed_before (pieces_of job) number first last_length k h)))
+        (le_or_lt (number - 1) k)
+
+    same : pieces_of after ≡ removed (pieces_of job) number
+    same =
+        sym (is_by_index (λ k. piece_of (get_or records k no_record)) n (removed (pieces_of job) number) no_piece
+        (removed-length (pieces_of job) number first last_length ∙ omega (arith, pieces-length job))
+        (λ k l. sym (piece_at k l)))
 
 -- The changed job's pieces are the changed pieces, and its sides stay.
 pub pieces_added : (job : Job) (new : Record) → job.count < pieces_max → pieces_of (with_added job new) ≡ added (pieces_of job) (piece_of new)
@@ -230,4 +211,7 @@ module _ (job : Job) (range : JobInRange job) where
       let below : number ≤ length (pieces_of job) = omega (arith, pieces-length job) in
       let long : length (removed (pieces_of job) number) ≡ length (pieces_of job) - 1 = removed-length (pieces_of job) number first below in
       sides (removed (pieces_of job) number) (omega (arith, pieces-length job, range.count_most))
-      (λ k l. subst PieceIn (sym (removed_at (pieces_of job) number first below k)) (old (moved_from (number - 1) k) (omega (arith, moved_below (number - 1) k))))
+      (λ k l. ⊎_elim
+      (λ h. subst PieceIn (sym (removed_behind (pieces_of job) number first below k h)) (old (k + 1) (omega arith)))
+      (λ h. subst PieceIn (sym (removed_before (pieces_of job) number first below k h)) (old k (omega arith)))
+      (le_or_lt (number - 1) k))

@@ -1,12 +1,17 @@
 -- The tests of range say what they stand for.
 use Prim.Native.Nat.{ℕ, ◌≤◌, ◌<◌}
-use mathlib.Core.Path.{◌≡◌, refl, sym, subst}
+use mathlib.Core.Path.{◌≡◌, refl, sym, ap, subst, ◌∙◌}
 use mathlib.Core.List.{List, []}
 use native.Mathlib.Omega.{arith}
-use mathlib.Core.Bool.{false}
-use lib.ListN.{get_or, length}
+use mathlib.Core.Bool.{Bool, true, false}
+use Rattle.std.specs.Bool.{MatchBool}
+use Rattle.std.specs.List.{AllWithin, HoldsAt}
+use Rattle.std.proofs.lemmas.List.{length-take-le, get_or-take}
+use lib.ListN.{get_or, length, take}
 use Rattle.laws.specs.Inner.{Says}
 use Rattle.laws.proofs.Says.{says_le, says_and, says_iff, says_no}
+use Rattle.laws.specs.Inner.{all_below}
+use Rattle.laws.proofs.Tests.{all_no}
 use Rattle.laws.proofs.Below.{all_below_says}
 use Rattle.cutting.specs.Limits.{side_max, pieces_max, size_max, value_max}
 use Rattle.cutting.proofs.Listed.{lays_listed, listed_lays}
@@ -60,6 +65,28 @@ module _ (job : Job) where
         λ i k l. (piece_says (record_at k)).found (subst PieceIn (pieces_at job k l) (in_range_each (pieces_of job) i k (omega (arith, pieces-length job)))),
       )
       (all_below_says (λ k. piece_in_range (record_at k)) job.count)
+
+  -- What a walk over the pieces answers.
+  pub all_pieces : {r : Bool} → job.count ≤ length job.pieces
+      → MatchBool r (AllWithin (λ p. piece_in_range p ≡ true) (take job.count job.pieces) 0 (length (take job.count job.pieces)))
+      ((k : ℕ) × (k < length (take job.count job.pieces)) × HoldsAt (λ p. piece_in_range p ≡ false) (take job.count job.pieces) k)
+      → r ≡ pieces_in_range job
+  unfolding pieces_in_range
+  all_pieces {r} h = answered r
+    where
+      long : length (take job.count job.pieces) ≡ job.count
+      long = length-take-le job.count job.pieces h
+
+      answered : (b : Bool)
+          → MatchBool b (AllWithin (λ p. piece_in_range p ≡ true) (take job.count job.pieces) 0 (length (take job.count job.pieces)))
+          ((k : ℕ) × (k < length (take job.count job.pieces)) × HoldsAt (λ p. piece_in_range p ≡ false) (take job.count job.pieces) k)
+          → b ≡ all_below (λ k. piece_in_range (record_at k)) job.count
+      answered true each =
+          sym ((all_below_says (λ k. piece_in_range (record_at k)) job.count).found (λ k l.
+          sym (ap piece_in_range (get_or-take job.count job.pieces k no_record l)) ∙ each k no_record (omega arith) (omega (arith, long))))
+      answered false (k, l, fails) =
+          let below : k < job.count = omega (arith, long) in
+          all_no (λ k. piece_in_range (record_at k)) job.count k below (sym (fails no_record) ∙ ap piece_in_range (get_or-take job.count job.pieces k no_record below)) refl
 
   pub job_says : Says (job_in_range job) (JobInRange job)
   unfolding job_in_range

@@ -2,16 +2,16 @@
 // change.rt: a piece more, changed, less; block.rt: the job block.
 #![tactic(auto)]
 
-ghost use Rattle.std.specs.Prelude.{◌≡◌, [], ◌≤◌};
+ghost use Rattle.std.specs.Prelude.{◌≡◌, [], ◌≤◌, length, take};
 ghost use Rattle.cutting.specs.Limits.{pieces_max};
-ghost use Rattle.job.specs.Job.{no_record, job_of, zero_job};
+ghost use Rattle.job.specs.Job.{job_of};
 ghost use Rattle.job.specs.Inner.{within, piece_in_range, pieces_in_range, job_in_range};
 
 pub mod block;
 mod change;
 
 #[repr(C)]
-#[derive(Clone, Copy)]
+#[derive(Clone, Copy, Debug, Default, PartialEq, Eq, Hash)]
 pub struct Piece {
     pub width: u16,
     pub height: u16,
@@ -22,7 +22,7 @@ pub struct Piece {
 pub type Records = [Piece; Job::PIECES_MAX as usize];
 
 #[repr(C)]
-#[derive(Clone, Copy)]
+#[derive(Clone, Copy, Debug, Default, PartialEq, Eq, Hash)]
 pub struct Job {
     pub width: u16,
     pub height: u16,
@@ -30,21 +30,11 @@ pub struct Job {
     pub pieces: Records,
 }
 
-// What a job block says: where ok is false, it is none, and the job is one of zeros.
-#[derive(Clone, Copy)]
-pub struct Blocked {
-    pub ok: bool,
-    pub job: Job,
-}
-
 // Is n in the range 1 to most?
 fn in_limits(n: u16, most: u16) -> bool
     ensures { result ≡ within n most }
 {
-    if n < 1 {
-        return false;
-    }
-    n <= most
+    (1..=most).contains(&n)
 }
 
 impl Piece {
@@ -52,27 +42,13 @@ impl Piece {
 
     pub const VALUE_MAX: u16 = 65_535;
 
-    // The record where there is no piece.
-    fn zeros() -> Piece
-        ensures { result ≡ no_record }
-    {
-        Piece {
-            width: 0,
-            height: 0,
-            value: 0,
-        }
-    }
-
+    #[tactic(auto, unfolding(crate::specs::Inner::piece_in_range))]
     pub fn in_range(self) -> bool
         ensures { result ≡ piece_in_range self }
     {
-        if !in_limits(self.width, Piece::SIZE_MAX) {
-            return false;
-        }
-        if !in_limits(self.height, Piece::SIZE_MAX) {
-            return false;
-        }
-        in_limits(self.value, Piece::VALUE_MAX)
+        in_limits(self.width, Piece::SIZE_MAX)
+            && in_limits(self.height, Piece::SIZE_MAX)
+            && in_limits(self.value, Piece::VALUE_MAX)
     }
 }
 
@@ -85,48 +61,36 @@ impl Job {
     pub fn new(width: u16, height: u16) -> Job
         ensures { result ≡ job_of width height [] }
     {
-        let pieces = [Piece::zeros(); Job::PIECES_MAX as usize];
         Job {
-            width: width,
-            height: height,
-            count: 0,
-            pieces: pieces,
+            width,
+            height,
+            ..Job::default()
         }
     }
 
-    // The job of zeros that a refused open returns.
-    pub fn zeros() -> Job
-        ensures { result ≡ zero_job }
+    // Its pieces: the first n records.
+    pub fn pieces(&self) -> &[Piece]
+        requires { self.now.count ≤ pieces_max }
+        ensures records { result.now ≡ take self.now.count self.now.pieces }
+        ensures many { length result.now ≡ self.now.count }
     {
-        Job::new(0, 0)
+        &self.pieces[..usize::from(self.count)]
     }
 
+    #[tactic(auto, unfolding(crate::specs::Inner::job_in_range))]
     pub fn in_range(self) -> bool
         ensures { result ≡ job_in_range self }
     {
-        if !in_limits(self.width, Job::SIDE_MAX) {
-            return false;
-        }
-        if !in_limits(self.height, Job::SIDE_MAX) {
-            return false;
-        }
-        if Job::PIECES_MAX < self.count {
-            return false;
-        }
-        self.pieces_in_range()
+        in_limits(self.width, Job::SIDE_MAX)
+            && in_limits(self.height, Job::SIDE_MAX)
+            && self.count <= Job::PIECES_MAX
+            && self.pieces_in_range()
     }
 
     fn pieces_in_range(self) -> bool
         requires { self.count ≤ pieces_max }
         ensures { result ≡ pieces_in_range self }
     {
-        let pieces = self.pieces;
-        let count = self.count as usize;
-        for k in 0..count {
-            if !pieces[k].in_range() {
-                return false;
-            }
-        }
-        true
+        self.pieces().iter().all(|piece| piece.in_range())
     }
 }

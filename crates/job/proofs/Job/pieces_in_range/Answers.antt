@@ -1,25 +1,12 @@
-use mathlib.Core.Path.{◌≡◌, sym, ap, ◌∙◌}
-use native.Mathlib.Omega.{arith}
-use Rattle.laws.proofs.Tests.{all_no, all_yes}
-use Rattle.laws.specs.Inner.{all_below}
-use Rattle.laws.proofs.Below.{all_below_none}
-use Rattle.job.specs.Inner.{pieces_in_range}
+use Rattle.std.proofs.Common.{rules, ◌≡◌, ◌∙◌, true, false}
+use Rattle.std.proofs.lemmas.Iterator.{cases_from_all, YieldsList-from_slice}
+use Rattle.job.specs.Inner.{piece_in_range}
+use Rattle.job.proofs.Range.{all_pieces}
 use Rattle.job.proofs.Job.pieces_in_range.Goals as goal
 
-pub loop-k-init : goal.loop-k-init
-loop-k-init c = (omega arith, all_below_none _)
-
-pub returns-then-not-in_range : goal.returns-then-not-in_range
-unfolding pieces_in_range
-returns-then-not-in_range c =
-    all_no _ _ c.loop-k.k (omega arith) c.in_range.ensures c.if-not-in_range.true
-
-pub loop-k-preserved : goal.loop-k-preserved
-loop-k-preserved c =
-    (omega arith, all_yes _ c.loop-k.k c.loop-k.invariant.1 c.in_range.ensures c.if-not-in_range.false)
-
+-- `Job::pieces_in_range` meets its contract.
 pub returns : goal.returns
-unfolding pieces_in_range
 returns c =
-    let end : c.loop-k.k ≡ c.args.self.count = omega arith in
-    sym (ap (all_below _) (sym end) ∙ c.loop-k.invariant.1)
+    all_pieces c.args.self (search rules)
+    (cases_from_all _ _ _ (λ p. piece_in_range p ≡ true) (λ p. piece_in_range p ≡ false) c.all.ensures.ran
+    (YieldsList-from_slice _ (c.iter.ensures.rest ∙ c.pieces.ensures.records)) (λ x q k. search rules) (λ x q k. search rules))

@@ -1,11 +1,10 @@
-use mathlib.Core.Path.{refl}
-use native.Mathlib.Omega.{arith}
-use Rattle.job.proofs.Changed.{moved_fits, added_done}
+use Rattle.std.proofs.Common.{arith}
+use Rattle.job.proofs.Changed.{tidied_count, added_done}
 use Rattle.job.proofs.Job.with_added.Goals as goal
 
 -- `Job::with_added` meets its contract.
-pub kept-pieces-requires : goal.kept-pieces-requires
-kept-pieces-requires c = record { count_le_pieces_max = omega arith; by_index = moved_fits _ _ (omega arith) }
+pub overflow_add-job : goal.overflow_add-job
+overflow_add-job c = omega (arith, c.requires, tidied_count c.args.self c.tidied-job.ensures)
 
 pub returns : goal.returns
-returns c = added_done _ _ c.requires refl c.kept-pieces.ensures
+returns c = added_done c.args.self c.tidied-job.ensures _ c.requires c.from-count.ensures

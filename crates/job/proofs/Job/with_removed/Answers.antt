@@ -1,13 +1,11 @@
-use mathlib.Core.Path.{refl}
-use native.Mathlib.Omega.{arith}
-use Rattle.job.proofs.Changed.{moved_fits, removed_done}
+use Rattle.std.proofs.Common.{get_or, refl, ap, ◌∙◌, arith}
+use Rattle.job.specs.Job.{no_record}
+use Rattle.job.proofs.Changed.{removed_done}
 use Rattle.job.proofs.Job.with_removed.Goals as goal
 
 -- `Job::with_removed` meets its contract.
-pub kept-pieces-requires : goal.kept-pieces-requires
-kept-pieces-requires c = record { count_le_pieces_max = omega arith; by_index = moved_fits _ _ (omega arith) }
-
 pub returns : goal.returns
 returns c =
-    let pre = c.requires in
-    removed_done _ _ pre.count_le_pieces_max pre.le_number.0 pre.le_number.1 refl c.kept-pieces.ensures
+    removed_done c.args.self c.args.number _ c.requires.number.0 c.requires.number.1 refl c.copy_within.ensures.by_index.1
+    (λ k h l. c.copy_within.ensures.by_index.0 k no_record h (omega arith) ∙ ap (λ i. get_or c.args.self.pieces i no_record) (omega arith))
+    c.tidied.ensures

@@ -1,5 +1,4 @@
-use mathlib.Core.Path.{sym}
-use native.Mathlib.Omega.{arith}
+use Rattle.std.proofs.Common.{sym, arith}
 use Rattle.job.specs.Job.{pieces_of}
 use Rattle.job.proofs.Pieces.{pieces-length}
 use Rattle.job.proofs.Blocks.{put_block_done}
@@ -8,5 +7,5 @@ use Rattle.job.proofs.block.put_block.Goals as goal
 -- `block::put_block` meets its contract.
 pub returns : goal.returns
 returns c =
-    let job = c.args.job in
+    let job = c.args.job.now in
     put_block_done _ _ _ (pieces_of job) (omega arith) (sym (pieces-length job)) c.put_block_head.ensures c.put_pieces.ensures

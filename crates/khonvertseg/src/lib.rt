@@ -134,7 +134,7 @@ impl From<Result<Accepted, Refusal>> for KhonChecked {
 pub fn khon_open(width: u32, height: u32, cells: &mut [u32]) -> KhonChanged
     ensures { KhonOpens width height cells.old result cells.new }
 {
-    KhonChanged::of(change::open(width, height, cells), &Job::zeros())
+    KhonChanged::of(change::open(width, height, cells), &Job::default())
 }
 
 pub fn khon_add(job: Job, cells: &mut [u32], piece: Piece) -> KhonChanged
@@ -159,12 +159,7 @@ pub fn khon_remove(job: Job, cells: &mut [u32], number: u32) -> KhonChanged
 fn ask_block(block: &[u8], cells: &mut [u32], x: u32, y: u32) -> Result<Answer, Refusal>
     ensures { AsksBlock block.now cells.old x y (asked_from result) cells.new }
 {
-    let blocked = from_block(block);
-    if !blocked.ok {
-        return Err(Refusal::BadJob);
-    }
-    let job = blocked.job;
-    question::ask(job, cells, x, y)
+    question::ask(from_block(block).ok_or(Refusal::BadJob)?, cells, x, y)
 }
 
 pub fn khon_ask(block: &[u8], cells: &mut [u32], x: u32, y: u32) -> KhonAsked
@@ -183,12 +178,7 @@ fn plan_block(
 ) -> Result<Written, Refusal>
     ensures { PlansBlock block.now cells.now x y file.old (planned_from result) file.new }
 {
-    let blocked = from_block(block);
-    if !blocked.ok {
-        return Err(Refusal::BadJob);
-    }
-    let job = blocked.job;
-    plan::plan(job, cells, x, y, file)
+    plan::plan(from_block(block).ok_or(Refusal::BadJob)?, cells, x, y, file)
 }
 
 pub fn khon_plan(block: &[u8], cells: &[u32], x: u32, y: u32, file: &mut [u8]) -> KhonPlanned

@@ -8,9 +8,10 @@
  *   alone stack                   stack in bytes
  *   alone cases                   their names
  *
- * The library lays a board out with its points; without WORK, one without them
+ * The library makes a board with its points; without WORK, one without them
  * (alone/lib.rt.in), so that what is left is the points.
  */
+#include <stdbool.h>
 #include <stdio.h>
 #include <string.h>
 
@@ -20,15 +21,13 @@
 
 enum { SIDE = KHON_SIDE_MAX, RUNS = 25 };
 
-/* The board (crates/board/src/lib.rt): sides and count, three times 128 entries,
-   the marks of P and those of Q. */
-enum { MARKS = SIDE + 1, ACROSS = 3 + 3 * 128, UP = ACROSS + MARKS, PLACES = UP + MARKS };
+/* The marks of P and those of Q, read off the library's board. */
+enum { MARKS = SIDE + 1 };
 typedef struct {
-    uint16_t places[PLACES];
+    bool across[MARKS], up[MARKS];
 } laid;
 laid board_with_points(khon_job job);
 laid board_without_points(khon_job job);
-size_t board_places(void);
 
 static khon_job job;
 static laid board;
@@ -150,10 +149,10 @@ enum { ENGINES = sizeof engines / sizeof *engines };
 /* ---- the commands ---- */
 
 /* The marks of a list, on the board that the library laid out, are all of them. */
-static int is_marked(const uint16_t *marks, const points *list) {
-    uint16_t own[MARKS] = {0};
+static int is_marked(const bool *marks, const points *list) {
+    bool own[MARKS] = {0};
     for (uint32_t i = 0; i < list->count; i++)
-        own[list->at[i]] = 1;
+        own[list->at[i]] = true;
     return memcmp(own, marks, sizeof own) == 0;
 }
 
@@ -164,7 +163,7 @@ static int agree(void) {
         library_with();
         for (int k = 1; k < ENGINES; k++) {
             engines[k].with();
-            if (!is_marked(board.places + ACROSS, &p) || !is_marked(board.places + UP, &q)) {
+            if (!is_marked(board.across, &p) || !is_marked(board.up, &q)) {
                 printf("%s: %s differs from the library\n", cases[i].name, engines[k].name);
                 bad = 1;
             }
@@ -207,7 +206,7 @@ static void stack_use(void) {
         }
         printf("%s | %zu | %zu\n", engines[k].name, with, without);
     }
-    printf("the board %zu, two lists of points %zu\n", sizeof board, sizeof p + sizeof q);
+    printf("two lists of points %zu\n", sizeof p + sizeof q);
 }
 
 static int count(const char *name, const char *engine, int work) {
@@ -222,10 +221,6 @@ static int count(const char *name, const char *engine, int work) {
 }
 
 int main(int words, char **word) {
-    if (board_places() != PLACES) {
-        fprintf(stderr, "alone: the library's board has %zu places, not %d\n", board_places(), PLACES);
-        return 1;
-    }
     if (words == 2 && strcmp(word[1], "agree") == 0)
         return agree();
     if (words == 2 && strcmp(word[1], "times") == 0) {

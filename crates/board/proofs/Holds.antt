@@ -5,7 +5,7 @@ use mathlib.Core.Logic.{◌↔◌}
 use mathlib.Core.List.{List}
 use native.Mathlib.Omega.{arith}
 use native.Mathlib.Numerals.{add-one}
-use lib.ListN.{length, get_or}
+use lib.ListN.{get_or}
 use Rattle.laws.proofs.ByIndex.{is_by_index}
 use Rattle.cutting.specs.Limits.{pieces_max}
 use Rattle.cutting.specs.Piece.{Lay, Piece, sized, no_piece, Numbered, Lays, Lies, Turned}
@@ -15,10 +15,10 @@ use Rattle.job.specs.declared.Job.{Job}
 use Rattle.job.specs.Job.{piece_of, no_record, pieces_of, lay_of}
 use Rattle.job.specs.Range.{JobInRange}
 use Rattle.job.proofs.Pieces.{pieces_at, pieces-length as pieces-of-length}
-use Rattle.board.specs.declared.pieces.Measure.TheVariants.{Width as WidthOf, Height as HeightOf, Value as ValueOf}
-use Rattle.board.specs.Inner.{places, across, widths, heights, values, width_on, height_on, count_on, width_at, height_at, value_at, Rows, rows_on, pieces_on, Size, pieces_board, board_of, Lists, Hold}
-use Rattle.board.proofs.Marks.{is_point_P}
-use Rattle.board.proofs.Laid.{first_of, pieces-length, pieces_width, pieces_height, pieces_count, pieces_entry, points_front, points_across, points_up}
+use Rattle.board.specs.declared.Board.{Board}
+use Rattle.board.specs.Inner.{width_on, height_on, count_on, width_at, height_at, value_at, Rows, rows_on, pieces_on, Size, record_at, pieces_board, with_points, board_of, Lists, Hold}
+use Rattle.board.proofs.Marks.{marks_of_at, is_point_P}
+use Rattle.board.proofs.Laid.{pieces_count, pieces_record}
 
 -- The piece at index k of the rows.
 pub record IsRow (rows : Rows) (k p q v : ℕ) : Type 0 where
@@ -75,57 +75,44 @@ heights_are {rows} {pieces} l =
     (row_lays l)
 
 -- For reading: the pieces that stand on the board are the listed ones.
-pub lists_pieces : (board : List ℕ) (pieces : List Piece) → Lists (rows_on board) pieces → pieces_on board ≡ pieces
+pub lists_pieces : (board : Board) (pieces : List Piece) → Lists (rows_on board) pieces → pieces_on board ≡ pieces
 unfolding rows_on pieces_on
 lists_pieces board pieces l =
     sym
     (is_by_index (λ k. sized (width_at board k) (height_at board k) (value_at board k)) (count_on board) pieces no_piece (sym l.count)
     (λ k h. let back : k ≡ k + 1 - 1 = omega arith in ap (λ (j : ℕ). get_or pieces j no_piece) back ∙ (numbered_listed (l.piece k h)).is))
 
--- Entries that are the job's, on any board.
-job_listed : (job : Job) (board : List ℕ) → count_on board ≡ job.count
-    → ((k : ℕ) → k < job.count → sized (width_at board k) (height_at board k) (value_at board k) ≡ piece_of (get_or job.pieces k no_record))
-    → Lists (rows_on board) (pieces_of job)
-unfolding rows_on
-job_listed job board e same =
-    record {
-      count = e ∙ sym (pieces-of-length job);
-      piece = λ k h. let b : k < job.count = omega (arith, e) in
-          rw add-one (listed_numbered (record { within = omega (arith, pieces-of-length job); is = pieces_at job k b ∙ sym (same k b) }));
-    }
-
 module _ (job : Job) (few : job.count ≤ pieces_max) where
-  -- The entries on the board with the pieces alone, and on the whole board.
-  on_pieces : (k : ℕ) → k < job.count
-      → sized (width_at (pieces_board job) k) (height_at (pieces_board job) k) (value_at (pieces_board job) k) ≡ piece_of (get_or job.pieces k no_record)
-  unfolding first_of
-  on_pieces k h =
-      λ i. record { width = pieces_entry job few WidthOf k h i; height = pieces_entry job few HeightOf k h i; value = pieces_entry job few ValueOf k h i }
-
-  -- The marks leave the sides and the entries.
-  stays : (i : ℕ) → i < across → get_or (board_of job) i 0 ≡ get_or (pieces_board job) i 0
-  unfolding board_of
-  stays = points_front (pieces_board job) (pieces-length job few)
-
-  on_board : (k : ℕ) → k < job.count
-      → sized (width_at (board_of job) k) (height_at (board_of job) k) (value_at (board_of job) k) ≡ piece_of (get_or job.pieces k no_record)
-  on_board k h =
-      (λ i. sized (stays (widths + k) (omega arith) i) (stays (heights + k) (omega arith) i) (stays (values + k) (omega arith) i)) ∙ on_pieces k h
+  -- Records that are the job's, on any board that counts as many.
+  job_listed : (board : Board) → count_on board ≡ job.count → ((k : ℕ) → record_at board k ≡ get_or job.pieces k no_record)
+      → Lists (rows_on board) (pieces_of job)
+  unfolding rows_on
+  job_listed board e same =
+      record {
+        count = e ∙ sym (pieces-of-length job);
+        piece = λ k h. let b : k < job.count = omega (arith, e) in
+            rw add-one
+            (listed_numbered (record { within = omega (arith, pieces-of-length job); is = pieces_at job k b ∙ sym (ap piece_of (same k)) }));
+      }
 
   pub board_width : width_on (board_of job) ≡ job.width
-  board_width = stays 0 (omega arith) ∙ pieces_width job few
+  unfolding board_of with_points pieces_board
+  board_width = refl
 
   pub board_height : height_on (board_of job) ≡ job.height
-  board_height = stays 1 (omega arith) ∙ pieces_height job few
+  unfolding board_of with_points pieces_board
+  board_height = refl
 
   pub board_count : count_on (board_of job) ≡ job.count
-  board_count = stays 2 (omega arith) ∙ pieces_count job few
+  unfolding board_of with_points
+  board_count = pieces_count job few
 
   pub pieces_listed : Lists (rows_on (pieces_board job)) (pieces_of job)
-  pieces_listed = job_listed job (pieces_board job) (pieces_count job few) on_pieces
+  pieces_listed = job_listed (pieces_board job) (pieces_count job few) (pieces_record job)
 
   pub board_listed : Lists (rows_on (board_of job)) (pieces_of job)
-  board_listed = job_listed job (board_of job) board_count on_board
+  unfolding board_of with_points
+  board_listed = job_listed (board_of job) board_count (pieces_record job)
 
   -- Reading a plan file needs the pieces alone.
   pub pieces_read : pieces_on (pieces_board job) ≡ pieces_of job
@@ -133,26 +120,23 @@ module _ (job : Job) (few : job.count ≤ pieces_max) where
 
 -- The board of a job holds its pieces, and its marks are the points.
 pub board_holds : (job : Job) → JobInRange job → Hold (rows_on (board_of job)) (pieces_of job) job.width job.height
-unfolding rows_on board_of
+unfolding rows_on board_of with_points pieces_board
 board_holds job r =
     record {
       lists = board_listed job few;
       in_p =
-          λ c l. rw (points_across board long c (omega (arith, r.width_most)), pieces_width job few)
+          λ c l. rw (marks_of_at (width_at board) (count_on board) job.width c (omega (arith, r.width_most)))
           (is_point_P (lay_of job) (width_at board) (count_on board) job.width c (widths_are listed));
       in_q =
-          λ d l. rw (points_up board long d (omega (arith, r.height_most)), pieces_height job few)
+          λ d l. rw (marks_of_at (height_at board) (count_on board) job.height d (omega (arith, r.height_most)))
           (is_point_P (Turned (lay_of job)) (height_at board) (count_on board) job.height d (heights_are listed));
     }
   where
     few : job.count ≤ pieces_max
     few = r.count_most
 
-    board : List ℕ
+    board : Board
     board = pieces_board job
-
-    long : length board ≡ places
-    long = pieces-length job few
 
     listed : Lists (rows_on board) (pieces_of job)
     listed = pieces_listed job few

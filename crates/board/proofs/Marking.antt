@@ -1,157 +1,192 @@
--- The marks on a board: those of the sizes first, then the pass over the numbers of the side.
+-- The marks: those of the sizes first, then the pass over the numbers of the side.
 use Prim.Native.Nat.{ℕ, ◌+◌, ◌≤◌, ◌<◌}
-use mathlib.Core.Bool.{Bool, true, false, cond, ◌||◌}
+use mathlib.Core.Bool.{Bool, true, false, ◌||◌}
 use mathlib.Core.Path.{◌≡◌, refl, sym, ap, subst, ◌∙◌}
-use mathlib.Core.List.{List}
-use mathlib.Core.Logic.{inl, ◌≢◌}
+use mathlib.Core.List.{List, [], ◌∷◌, ◌++◌}
+use mathlib.Core.Logic.{◌⊎◌, inl, inr, ⊎_elim}
 use native.Mathlib.Omega.{arith}
-use lib.Dec.{eqb}
-use lib.ListN.{length, get_or, set, length-set}
-use lib.Seq.{get_or-set_same, get_or-set_other}
-use Rattle.laws.specs.Inner.{Says}
-use Rattle.laws.proofs.Says.{says_false}
-use Rattle.laws.specs.Put.{put}
-use Rattle.laws.proofs.Placed.{put_in, put_out, is_put, put-set}
+use native.Mathlib.Decide.{ℕ_discrete}
+use lib.ListN.{length, set, replicate, length-replicate, get_or-replicate, length-append, get_or-append}
+use lib.Seq.{get_or-append_seam}
+use Rattle.laws.proofs.Order.{last_or_below}
 use Rattle.cutting.specs.Limits.{side_max}
-use Rattle.board.specs.Inner.{count_on, entry_at, mark_at, bit, mark_count, step_at, mark_row, marked_by, is_within, is_size, with_size, with_sizes, is_point, reaches, leads, marks_of, Markable}
-use Rattle.board.proofs.Marks.{mark_row-length, mark_row_at, mark_row_same, mark_row_set}
+use Rattle.board.specs.Inner.{mark_at, mark_count, step_at, Rising, mark_row, is_size, size_marks, is_point, reaches, leads, marks_of}
+use Rattle.board.proofs.Marks.{is_mark_row, mark_row_at, mark_row_same, mark_row_set}
 use Rattle.board.proofs.Steps.{Stepped, steps_none, IsReached, reaches_closed}
-use Rattle.board.proofs.Passing.{is_within_says, is_size_other, is_size_new, passed, passed_none, passed_all, passed_upto, passed_other, passed_more, steps_more}
+use Rattle.board.proofs.Passing.{is_within_says, is_size_none, is_size_other, is_size_new, passed, passed_none, passed_all, passed_upto, passed_other, passed_more, steps_same, steps_more}
 
--- A mark that was written is read as it was meant.
-pub bit_read : (b : Bool) {n : ℕ} → n ≡ bit b → eqb n 1 ≡ b
-bit_read true e = ap (λ (m : ℕ). eqb m 1) e
-bit_read false e = ap (λ (m : ℕ). eqb m 1) e
+module _ (size : ℕ → ℕ) (side : ℕ) (few : side ≤ side_max) where
+  -- The sizes: none yet, and the code's k + 1.
+  pub sizes_none : replicate mark_count false ≡ mark_row (is_size size 0 side)
+  sizes_none =
+      is_mark_row (is_size size 0 side) (replicate mark_count false) (length-replicate mark_count false)
+      (λ c h. get_or-replicate mark_count c false false (omega arith) ∙ sym (is_size_none size side c))
 
-bit_or : (b d : Bool) → cond b 1 (bit d) ≡ bit (b || d)
-bit_or true d = refl
-bit_or false d = refl
+  module _ {marks : List Bool} {s : ℕ} (k : ℕ) (was : marks ≡ mark_row (is_size size k side)) (is : s ≡ size k) where
+    pub sizes_set : 1 ≤ s → s ≤ side → set marks s true ≡ mark_row (is_size size (k + 1) side)
+    sizes_set l m =
+        ap (λ (r : List Bool). set r s true) was
+        ∙ mark_row_set (is_size size k side) (is_size size (k + 1) side) s (omega (arith, m, few))
+        (λ c d. is_size_other size side k c (λ i. absurd (d (i ∙ sym is))))
+        (sym (ap (is_size size (k + 1) side) is ∙ (is_size_new size side k ∙ (is_within_says side (size k)).found (omega (arith, is), omega (arith, is)))))
 
-pub marking_same : (board : List ℕ) (marks : ℕ) (test other : ℕ → Bool) {now : List ℕ} → now ≡ marked_by board marks test → ((c : ℕ) → test c ≡ other c)
-    → now ≡ marked_by board marks other
-unfolding marked_by
-marking_same board marks test other e same = e ∙ ap (put board marks) (mark_row_same test other same)
-
-module _ {board : List ℕ} {sizes marks side : ℕ} (ready : Markable board sizes marks side) (test : ℕ → Bool) where
-  row_fits : marks + length (mark_row test) ≤ length board
-  row_fits = omega (arith, mark_row-length test, ready.room, ready.long)
-
-  -- What stands before the marks stays.
-  marked_before : (i : ℕ) → i < marks → get_or (marked_by board marks test) i 0 ≡ get_or board i 0
-  unfolding marked_by
-  marked_before i h = put_out board marks (mark_row test) 0 row_fits i (inl h)
-
-  marked_at_lem : (c : ℕ) → c ≤ side_max → get_or (marked_by board marks test) (marks + c) 0 ≡ bit (test c)
-  unfolding marked_by
-  marked_at_lem c h = put_in board marks (mark_row test) 0 row_fits c (omega (arith, mark_row-length test)) ∙ mark_row_at test c h
-
-  pub marking_none : ((c : ℕ) → test c ≡ false) → board ≡ marked_by board marks test
-  unfolding marked_by
-  marking_none never =
-      is_put board marks (mark_row test) 0 row_fits board refl
-      (λ c h. let b : c < mark_count = omega (arith, mark_row-length test) in
-      ready.none.zeros c b ∙ sym (mark_row_at test c (omega arith) ∙ ap bit (never c)))
-      (λ i h. refl)
-
-  -- One mark set anew, for a test that differs only there.
-  marking_set : (other : ℕ → Bool) {now : List ℕ} (at : ℕ) {v : ℕ} → at ≤ side_max → now ≡ marked_by board marks test
-      → ((c : ℕ) → c ≢ at → test c ≡ other c) → v ≡ bit (other at) → set now (marks + at) v ≡ marked_by board marks other
-  unfolding marked_by
-  marking_set other {now} at {v} h e same f =
-      ap (λ (l : List ℕ). set l (marks + at) v) e
-      ∙ (put-set board marks (mark_row test) 0 row_fits at v (omega (arith, mark_row-length test)) ∙ ap (put board marks) (mark_row_set test other at h same f))
+    pub sizes_skip : (1 ≤ s → s ≤ side → ⊥) → marks ≡ mark_row (is_size size (k + 1) side)
+    sizes_skip none =
+        was
+        ∙ mark_row_same (is_size size k side) (is_size size (k + 1) side)
+        (λ c. is_size_other size side k c (λ i r. none (omega (arith, i, is, r.0)) (omega (arith, i, is, r.1))))
 
 -- The pass at `last`: the marks, and the steps so far.
-pub record PassAt (board : List ℕ) (sizes marks side last : ℕ) (now steps : List ℕ) (held : ℕ) : Type 0 where
-  pub marked : now ≡ marked_by board marks (passed (entry_at board sizes) (count_on board) side last)
-  pub stepped : Stepped (IsReached (entry_at board sizes) (count_on board)) last (step_at steps) held
-  pub long : length steps ≡ mark_count
+pub record PassAt (size : ℕ → ℕ) (n side last : ℕ) (marks : List Bool) (steps : List ℕ) : Type 0 where
+  pub marked : marks ≡ mark_row (passed size n side last)
+  pub stepped : Stepped (IsReached size n) last (step_at steps) (length steps)
 
-module _ {board : List ℕ} {sizes marks side : ℕ} (ready : Markable board sizes marks side) where
-  abbrev size : ℕ → ℕ
-  size = entry_at board sizes
+-- As the loop goes: the pass before the number `next`.
+pub record PassBefore (size : ℕ → ℕ) (n side next : ℕ) (marks : List Bool) (steps : List ℕ) : Type 0 where
+  pub last : ℕ
+  pub before : next ≡ last + 1
+  pub pass : PassAt size n side last marks steps
 
-  abbrev n : ℕ
-  n = count_on board
+-- What the loop knows of the steps whatever the sizes are: they rise, and are numbers before `next`.
+pub record Ascending (next : ℕ) (steps : List ℕ) : Type 0 where
+  pub few : length steps < next
+  pub rising : Rising (step_at steps) (length steps)
+  pub below : (j : ℕ) → j < length steps → step_at steps j < next
 
-  -- The sizes: the code's k + 1.
-  pub sizes_more : {now : List ℕ} {s : ℕ} (k : ℕ) → k < n → now ≡ marked_by board marks (is_size size k side) → s ≡ entry_at now sizes k
-      → with_size now marks side s ≡ marked_by board marks (is_size size (k + 1) side)
-  unfolding with_size
-  sizes_more {now} {s} k h e f = by (is_within side s) (is_within_says side s) (ap (is_within side) is)
+pub ascending_none : Ascending 1 []
+ascending_none =
+    record { few = omega arith; rising = record { rises = λ i j l h. absurd (omega arith) }; below = λ j h. absurd (omega arith) }
+
+module _ {next : ℕ} {steps steps' : List ℕ} (a : Ascending next steps) where
+  pub ascending_same : steps' ≡ steps → Ascending (next + 1) steps'
+  ascending_same e =
+      rw e (record { few = omega (arith, a.few); rising = a.rising; below = λ j h. omega (arith, a.below j h) })
+
+  pub ascending_more : steps' ≡ steps ++ next ∷ [] → Ascending (next + 1) steps'
+  ascending_more e = rw e (record { few = omega (arith, long, a.few); rising = record { rises = rises }; below = λ j h. below j (at j h) })
     where
-      is : s ≡ size k
-      is = f ∙ (ap (λ (l : List ℕ). entry_at l sizes k) e ∙ marked_before ready (is_size size k side) (sizes + k) (omega (arith, ready.few, ready.apart)))
+      more : List ℕ
+      more = steps ++ next ∷ []
 
-      by : (b : Bool) → Says b ((1 ≤ s) × (s ≤ side)) → b ≡ is_within side (size k)
-          → cond b (set now (marks + s) 1) now ≡ marked_by board marks (is_size size (k + 1) side)
-      by true w q =
-          marking_set ready (is_size size k side) (is_size size (k + 1) side) s (omega (arith, (w.means refl).1, ready.within)) e
-          (λ c d. is_size_other size side k c (λ i. absurd (d (i ∙ sym is))))
-          (ap bit (q ∙ (sym (is_size_new size side k) ∙ ap (is_size size (k + 1) side) (sym is))))
-      by false w q =
-          marking_same board marks (is_size size k side) (is_size size (k + 1) side) e
-          (λ c. is_size_other size side k c (λ i r. says_false w refl (subst (λ (m : ℕ). (1 ≤ m) × (m ≤ side)) (i ∙ sym is) r)))
+      long : length more ≡ length steps + 1
+      long = length-append steps (next ∷ [])
 
-  passing_start : {now steps : List ℕ} → now ≡ with_sizes board sizes marks side → length steps ≡ mark_count → PassAt board sizes marks side 0 now steps 0
-  unfolding with_sizes
-  passing_start e l =
+      at : (j : ℕ) → j < length more → ((j ≡ length steps) × (step_at more j ≡ next)) ⊎ ((j < length steps) × (step_at more j ≡ step_at steps j))
+      at j h =
+          ⊎_elim (λ e. inl (e, ap (step_at more) e ∙ get_or-append_seam steps next [] 0)) (λ l. inr (l, get_or-append steps (next ∷ []) 0 j l))
+          (last_or_below {k = j} {n = length steps} (omega (arith, long)))
+
+      below : (j : ℕ) → ((j ≡ length steps) × (step_at more j ≡ next)) ⊎ ((j < length steps) × (step_at more j ≡ step_at steps j)) → step_at more j < next + 1
+      below j (inl (e, q)) = omega (arith, q)
+      below j (inr (l, q)) = omega (arith, q, a.below j l)
+
+      rises : (i j : ℕ) → i < j → j < length more → step_at more i < step_at more j
+      rises i j l h =
+          let i_at : step_at more i ≡ step_at steps i = get_or-append steps (next ∷ []) 0 i (omega (arith, long)) in
+          ⊎_elim (λ p. omega (arith, i_at, p.1, a.below i (omega (arith, p.0)))) (λ p. omega (arith, i_at, p.1, a.rising.rises i j l p.0)) (at j h)
+
+-- The pass goes on, with marks' and steps' as a turn leaves them: where a step leads to `next`, else where it is a size, else.
+pub record Further (sizes : ℕ → ℕ) (n side next : ℕ) (marks : List Bool) (steps : List ℕ) (b : Bool) : Type 0 where
+  pub led : {marks' : List Bool} {steps' : List ℕ} → b ≡ true → marks' ≡ set marks next true → steps' ≡ steps
+      → PassBefore sizes n side (next + 1) marks' steps'
+  pub size : {marks' : List Bool} {steps' : List ℕ} → b ≡ false → mark_at marks next ≡ true → marks' ≡ marks → steps' ≡ steps ++ next ∷ []
+      → PassBefore sizes n side (next + 1) marks' steps'
+  pub none : {marks' : List Bool} {steps' : List ℕ} → b ≡ false → mark_at marks next ≡ false → marks' ≡ marks → steps' ≡ steps
+      → PassBefore sizes n side (next + 1) marks' steps'
+
+module _ {size : ℕ → ℕ} {n side : ℕ} where
+  pub passing_start : {marks : List Bool} → marks ≡ size_marks size n side → PassBefore size n side 1 marks []
+  unfolding size_marks
+  passing_start e =
       record {
-        marked = marking_same board marks (is_size size n side) (passed size n side 0) e (passed_none size n side);
-        stepped = steps_none (reaches_closed size n) _;
-        long = l;
+        last = 0;
+        before = refl;
+        pass = record {
+          marked = e ∙ mark_row_same (is_size size n side) (passed size n side 0) (passed_none size n side);
+          stepped = steps_none (reaches_closed size n) (step_at []);
+        };
       }
 
-  pub passing_end : {last held : ℕ} {now steps : List ℕ} → PassAt board sizes marks side last now steps held → last ≡ side
-      → now ≡ put board marks (marks_of size n side)
-  unfolding marked_by marks_of mark_row
-  passing_end p q = marking_same board marks (passed size n side side) (is_point size n side) (rw q at p.marked) (passed_all size n side)
+  module _ {next : ℕ} {marks : List Bool} {steps : List ℕ} (p : PassBefore size n side next marks steps) where
+    pub passing_end : next ≡ side + 1 → marks ≡ marks_of size n side
+    unfolding marks_of
+    passing_end e =
+        let q : p.last ≡ side = omega (arith, p.before) in
+        rw q at p.pass.marked ∙ mark_row_same (passed size n side side) (is_point size n side) (passed_all size n side)
 
-  module _ {last held : ℕ} {now steps : List ℕ} (p : PassAt board sizes marks side last now steps held) where
-    mark_is : (m : ℕ) → m ≤ side_max → get_or now (marks + m) 0 ≡ bit (passed size n side last m)
-    mark_is m h = ap (λ (b : List ℕ). get_or b (marks + m) 0) p.marked ∙ marked_at_lem ready (passed size n side last) m h
+  -- One turn, for last + 1: b is whether a step leads to it, and the mark so far whether it is a size.
+  module _ {last : ℕ} {marks : List Bool} {steps : List ℕ} {b : Bool} (few : side ≤ side_max) (p : PassAt size n side last marks steps) (h : last < side)
+      (search : b ≡ leads (mark_at marks) (step_at steps) (length steps) (last + 1)) where
+    mark_is : (m : ℕ) → m ≤ side_max → mark_at marks m ≡ passed size n side last m
+    mark_is m l = ap (λ (r : List Bool). mark_at r m) p.marked ∙ mark_row_at (passed size n side last) m l
 
-    made : last ≤ side → (m : ℕ) → m ≤ last → mark_at now marks m ≡ reaches size n m
-    made h m l = bit_read (passed size n side last m) (mark_is m (omega (arith, ready.within))) ∙ passed_upto size n side last m l
+    made : (m : ℕ) → m ≤ last → mark_at marks m ≡ reaches size n m
+    made m l = mark_is m (omega (arith, few)) ∙ passed_upto size n side last m l
 
--- The loop knows the board as it was when the sizes had been marked: the pass at `last`, from whichever board that was.
-pub record PassFrom (sized : List ℕ) (sizes marks side last : ℕ) (now steps : List ℕ) (held : ℕ) : Type 0 where
-  pub from : (board : List ℕ) → Markable board sizes marks side → sized ≡ with_sizes board sizes marks side
-      → PassAt board sizes marks side last now steps held
+    own_is : mark_at marks (last + 1) ≡ passed size n side last (last + 1)
+    own_is = mark_is (last + 1) (omega (arith, few))
 
-pub passes_start : {sized steps : List ℕ} {sizes marks side : ℕ} → length steps ≡ mark_count → PassFrom sized sizes marks side 0 sized steps 0
-passes_start l = record { from = λ board ready e. passing_start ready e l }
+    further : b || mark_at marks (last + 1) ≡ passed size n side (last + 1) (last + 1)
+    further = passed_more size n side h p.stepped made search own_is
 
--- One turn, with the code's last + 1: `led` is whether a step leads there, `own` the mark so far.
-module _ {sizes marks side last held : ℕ} {now steps : List ℕ} {led : Bool} {own mark new held' : ℕ} (h : last < side)
-    (was : own ≡ get_or now (marks + (last + 1)) 0)
-    (search : led ≡ leads (mark_at now marks) (step_at steps) held (last + 1)) (becomes : mark ≡ cond led 1 own) (noted : new ≡ last + 1)
-    (count : held' ≡ cond led held (held + own)) where
-  passing_more : {board : List ℕ} → Markable board sizes marks side → PassAt board sizes marks side last now steps held
-      → PassAt board sizes marks side (last + 1) (set now (marks + (last + 1)) mark) (set steps held new) held'
-  passing_more {board} ready p =
-      record {
-        marked =
-            marking_set ready (passed s k side last) (passed s k side (last + 1)) (last + 1) (omega (arith, ready.within)) p.marked
-            (passed_other s k side last)
-            (becomes
-            ∙ (ap (cond led 1) is ∙ (bit_or led _ ∙ ap bit (passed_more s k side h p.stepped (made ready p (omega arith)) search refl))));
-        stepped =
-            steps_more s k side h p.stepped (made ready p (omega arith)) search refl (λ j i. get_or-set_other steps held j new 0 (λ e. omega arith))
-            (get_or-set_same steps held new 0 (omega (arith, p.long, p.stepped.few, ready.within)) ∙ noted)
-            (count ∙ ap (λ (m : ℕ). cond led held (held + m)) is);
-        long = length-set steps held new ∙ p.long;
-      }
-    where
-      s : ℕ → ℕ
-      s = size ready
+    stays : (b ≡ true) ⊎ (mark_at marks (last + 1) ≡ false) → Stepped (IsReached size n) (last + 1) (step_at steps) (length steps)
+    stays = steps_same size n side h p.stepped made search own_is
 
-      k : ℕ
-      k = n ready
+    -- No mark changes.
+    kept : b ≡ false → marks ≡ mark_row (passed size n side (last + 1))
+    kept e = p.marked ∙ mark_row_same (passed size n side last) (passed size n side (last + 1)) (λ c. each c (ℕ_discrete c (last + 1)))
+      where
+        each : (c : ℕ) → Dec (c ≡ last + 1) → passed size n side last c ≡ passed size n side (last + 1) c
+        each c (yes q) = rw q (sym own_is ∙ (ap (λ (d : Bool). d || mark_at marks (last + 1)) (sym e) ∙ further))
+        each c (no d) = passed_other size n side last c d
 
-      is : own ≡ bit (passed s k side last (last + 1))
-      is = was ∙ mark_is ready p (last + 1) (omega (arith, ready.within))
+    turn_led : b ≡ true → PassAt size n side (last + 1) (set marks (last + 1) true) steps
+    turn_led e =
+        record {
+          marked =
+              ap (λ (r : List Bool). set r (last + 1) true) p.marked
+              ∙ mark_row_set (passed size n side last) (passed size n side (last + 1)) (last + 1) (omega (arith, few)) (passed_other size n side last)
+              (sym (ap (λ (d : Bool). d || mark_at marks (last + 1)) e) ∙ further);
+          stepped = stays (inl e);
+        }
 
-  pub passes_more : {sized : List ℕ} → PassFrom sized sizes marks side last now steps held
-      → PassFrom sized sizes marks side (last + 1) (set now (marks + (last + 1)) mark) (set steps held new) held'
-  passes_more p = record { from = λ board ready e. passing_more ready (p.from board ready e) }
+    turn_size : b ≡ false → mark_at marks (last + 1) ≡ true → PassAt size n side (last + 1) marks (steps ++ (last + 1) ∷ [])
+    turn_size e own =
+        record {
+          marked = kept e;
+          stepped =
+              subst (Stepped (IsReached size n) (last + 1) (step_at (steps ++ (last + 1) ∷ []))) (sym (length-append steps ((last + 1) ∷ [])))
+              (steps_more size n side h p.stepped made search own_is own
+              (λ j i. get_or-append steps ((last + 1) ∷ []) 0 j i)
+              (get_or-append_seam steps (last + 1) [] 0));
+        }
+
+    turn_none : b ≡ false → mark_at marks (last + 1) ≡ false → PassAt size n side (last + 1) marks steps
+    turn_none e own = record { marked = kept e; stepped = stays (inr own) }
+
+  -- The same as the loop has it: the slice that `led` reads are the steps.
+  module _ {next : ℕ} {marks : List Bool} {steps slice : List ℕ} {b : Bool} (few : side ≤ side_max) (p : PassBefore size n side next marks steps)
+      (h : next ≤ side) (lent : slice ≡ steps) (search : b ≡ leads (mark_at marks) (step_at slice) (length slice) next) where
+    becomes : {marks' : List Bool} {steps' : List ℕ} (m : ℕ → List Bool) (s : ℕ → List ℕ) → marks' ≡ m next → steps' ≡ s next → PassAt size n side (p.last + 1) (m (p.last + 1)) (s (p.last + 1))
+        → PassBefore size n side (next + 1) marks' steps'
+    becomes m s f g t = rw (f, g) (record { last = next; before = refl; pass = subst (λ (k : ℕ). PassAt size n side k (m k) (s k)) (sym p.before) t })
+
+    below : p.last < side
+    below = omega (arith, p.before)
+
+    found : b ≡ leads (mark_at marks) (step_at steps) (length steps) (p.last + 1)
+    found =
+        search
+        ∙ (ap (λ (l : List ℕ). leads (mark_at marks) (step_at l) (length l) next) lent
+        ∙ ap (leads (mark_at marks) (step_at steps) (length steps)) p.before)
+
+    mark_here : mark_at marks (p.last + 1) ≡ mark_at marks next
+    mark_here = sym (ap (mark_at marks) p.before)
+
+    pub pass_on : Further size n side next marks steps b
+    pass_on =
+        record {
+          led = λ e f g. becomes (λ k. set marks k true) (λ k. steps) f g (turn_led few p.pass below found e);
+          size = λ e own f g. becomes (λ k. marks) (λ k. steps ++ k ∷ []) f g (turn_size few p.pass below found e (mark_here ∙ own));
+          none = λ e own f g. becomes (λ k. marks) (λ k. steps) f g (turn_none few p.pass below found e (mark_here ∙ own));
+        }

@@ -1,16 +1,16 @@
 -- The pass over the numbers of a side: up to `last` each has the mark of whether it is reached, and beyond it the mark of whether it is a size.
 use Prim.Native.Nat.{ℕ, ◌+◌, ◌-◌, ◌≤◌, ◌<◌}
-use mathlib.Core.Bool.{Bool, true, false, cond, ◌&&◌, ◌||◌}
-use mathlib.Core.Path.{◌≡◌, refl, sym, ap, subst, ◌∙◌}
+use mathlib.Core.Bool.{Bool, true, false, ◌&&◌, ◌||◌}
+use mathlib.Core.Path.{◌≡◌, refl, sym, ap, ◌∙◌}
 use mathlib.Core.Logic.{◌⊎◌, inl, inr, ⊎_elim, ◌≢◌}
 use native.Mathlib.Omega.{arith}
-use native.Mathlib.Nat.{add-zero, eq-or-lt_of_le}
+use native.Mathlib.Nat.{eq-or-lt_of_le}
 use lib.Dec.{leb, eqb}
 use Rattle.laws.specs.Inner.{Says}
 use Rattle.laws.proofs.Order.{le_or_lt, last_or_below}
 use Rattle.laws.proofs.Says.{says_itself, says_no, says_false, says_iff, says_le, says_eq, says_and, says_or, says_same}
 use Rattle.laws.proofs.Below.{any_below_says}
-use Rattle.board.specs.Inner.{Size, reaches, is_point, bit, is_within, is_size, tried_from, Rising, leads}
+use Rattle.board.specs.Inner.{Size, reaches, is_point, is_within, is_size, tried_from, Rising, leads}
 use Rattle.board.proofs.Reaches.{reaches_least}
 use Rattle.board.proofs.Marks.{is_point_says}
 use Rattle.board.proofs.Steps.{Led, led_over, led_among, Stepped, steps_stay, steps_grow, steps_kept, IsReached, reaches_closed, size_reached, reached_next}
@@ -33,13 +33,6 @@ module _ (made : ℕ → Bool) (step : ℕ → ℕ) where
   -- As the loop goes: none of the first j leads to c.
   abbrev pub Unled : ℕ → ℕ → Type 0
   Unled j c = Led (λ m. made m ≡ true) step j c → ⊥
-
-  pub unled_more : (j c : ℕ) {g : ℕ} → Unled j c → g ≡ step j → (made (c - g) ≡ true → ⊥) → Unled (j + 1) c
-  unled_more j c none e new l =
-      ⊎_elim
-      (λ q. new (ap (λ (s : ℕ). made (c - s)) (e ∙ sym (ap step q)) ∙ l.leaves))
-      (λ b. none (led_among l b))
-      (last_or_below {k = l.index} {n = j} (omega (arith, l.among)))
 
   -- A step that is too large for c ends the search: the later ones are larger.
   pub unled_stop : (held j c : ℕ) → Rising step held → Unled j c → c < tried_from (step j) → Unled held c
@@ -141,18 +134,14 @@ module _ (size : ℕ → ℕ) (n side : ℕ) where
     pub passed_more : b || own ≡ passed (last + 1) (last + 1)
     passed_more = says_same reached_says (says_itself _) ∙ sym (passed_upto (last + 1) (last + 1) (omega arith))
 
-    -- A size that no step leads to is a step itself.
-    pub steps_more : {other : ℕ → ℕ} {held' : ℕ} → ((j : ℕ) → j < held → other j ≡ step j) → other held ≡ last + 1
-        → held' ≡ cond b held (held + bit own) → Stepped (IsReached size n) (last + 1) other held'
-    steps_more {other} keeps new e = subst (Stepped R (last + 1) other) (sym e) (by b own led_says reached_says)
+    -- Where a step leads to it, or it is no size, the steps stay ..
+    pub steps_same : (b ≡ true) ⊎ (own ≡ false) → Stepped (IsReached size n) (last + 1) step held
+    steps_same none = steps_stay (reaches_closed size n) steps lead
       where
-        R : ℕ → Type 0
-        R = IsReached size n
+        lead : IsReached size n (last + 1) → Led (IsReached size n) step held (last + 1)
+        lead r = ⊎_elim led_says.means (λ e. ⊎_elim (λ l. l) (λ s. absurd (says_false own_says e s)) ((reached_next size n steps).1 r)) none
 
-        stay : (R (last + 1) → Led R step held (last + 1)) → Stepped R (last + 1) other held
-        stay lead = steps_kept (steps_stay (reaches_closed size n) steps lead) keeps
-
-        by : (b own : Bool) → Says b (Led R step held (last + 1)) → Says (b || own) (R (last + 1)) → Stepped R (last + 1) other (cond b held (held + bit own))
-        by true own led here = stay (λ _. led.means refl)
-        by false true led here = steps_grow (steps_kept steps keeps) new (here.means refl)
-        by false false led here = rw add-zero (stay (λ r. absurd (says_false here refl r)))
+    -- .. and a size that no step leads to is a step itself.
+    pub steps_more : {other : ℕ → ℕ} → own ≡ true → ((j : ℕ) → j < held → other j ≡ step j) → other held ≡ last + 1
+        → Stepped (IsReached size n) (last + 1) other (held + 1)
+    steps_more e keeps new = steps_grow (steps_kept steps keeps) new (own_reached (last + 1) ((omega arith, omega arith), own_says.means e))

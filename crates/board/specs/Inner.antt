@@ -1,74 +1,55 @@
 -- The board as it computes; nobody has to believe it: `board_holds` says that it holds the job's pieces and the points of P and Q.
-use Rattle.std.specs.Prelude.{ℕ, zero, suc, ◌+◌, ◌-◌, ◌*◌, ◌<◌, ◌≤◌, Bool, true, false, cond, ◌&&◌, ◌||◌, ◌≡◌, List, [], ◌∷◌, ◌++◌, leb, ltb, eqb, length, get_or, set, replicate}
+use Rattle.std.specs.Prelude.{ℕ, zero, suc, ◌+◌, ◌-◌, ◌*◌, ◌<◌, ◌≤◌, min, Bool, true, false, cond, ◌&&◌, ◌||◌, ◌≡◌, List, [], ◌∷◌, ◌++◌, leb, ltb, eqb, length, get_or, replicate}
+use Rattle.std.proofs.Math.Nat.{min-le_right}
 use Rattle.laws.specs.Inner.{any_below, Says}
 use Rattle.laws.specs.ByIndex.{by_index}
-use Rattle.laws.specs.Put.{put}
-use Rattle.cutting.specs.Limits.{side_max}
+use Rattle.cutting.specs.Limits.{side_max, pieces_max}
 use Rattle.cutting.specs.Piece.{Piece, sized, Numbered, Lays}
 use Rattle.cutting.specs.Points.{P, Q}
 use Rattle.job.specs.declared.Piece.{Piece as Record}
 use Rattle.job.specs.declared.Job.{Job}
 use Rattle.job.specs.Job.{no_record}
-use Rattle.board.specs.declared.pieces.Measure.{Measure}
-use Rattle.board.specs.declared.pieces.Measure.TheVariants.{Width, Height, Value}
+use Rattle.board.specs.declared.Board.{Board}
 
--- The places of the board, as the code's constants name them.
-
+-- Room for records: more than a job has pieces.
 abbrev pub entries : ℕ
 entries = 128
-
-abbrev pub widths : ℕ
-widths = 3
-
-abbrev pub heights : ℕ
-heights = widths + entries
-
-abbrev pub values : ℕ
-values = heights + entries
 
 -- One mark for each number that a side can be, and one for zero.
 abbrev pub mark_count : ℕ
 mark_count = side_max + 1
 
-abbrev pub across : ℕ
-across = values + entries
-
-abbrev pub up : ℕ
-up = across + mark_count
-
-abbrev pub places : ℕ
-places = up + mark_count
-
 -- What stands on a board.
 
-abbrev pub width_on : List ℕ → ℕ
-width_on board = get_or board 0 0
+abbrev pub width_on : Board → ℕ
+width_on board = board.width
 
-abbrev pub height_on : List ℕ → ℕ
-height_on board = get_or board 1 0
+abbrev pub height_on : Board → ℕ
+height_on board = board.height
 
-abbrev pub count_on : List ℕ → ℕ
-count_on board = get_or board 2 0
+abbrev pub count_on : Board → ℕ
+count_on board = board.count
 
--- The entry at index k of those that begin at a place, and the mark at c.
-abbrev pub entry_at : List ℕ → ℕ → ℕ → ℕ
-entry_at board first k = get_or board (first + k) 0
+-- The record at index k.
+abbrev pub record_at : Board → ℕ → Record
+record_at board k = get_or board.pieces k no_record
 
-abbrev pub mark_at : List ℕ → ℕ → ℕ → Bool
-mark_at board first c = eqb (get_or board (first + c) 0) 1
+abbrev pub width_at : Board → ℕ → ℕ
+width_at board k = (record_at board k).width
 
-abbrev pub width_at : List ℕ → ℕ → ℕ
-width_at board k = entry_at board widths k
+abbrev pub height_at : Board → ℕ → ℕ
+height_at board k = (record_at board k).height
 
-abbrev pub height_at : List ℕ → ℕ → ℕ
-height_at board k = entry_at board heights k
+abbrev pub value_at : Board → ℕ → ℕ
+value_at board k = (record_at board k).value
 
-abbrev pub value_at : List ℕ → ℕ → ℕ
-value_at board k = entry_at board values k
+-- The mark of c.
+abbrev pub mark_at : List Bool → ℕ → Bool
+mark_at marks c = get_or marks c false
 
 -- A tall question is one of heights: of Q.
-abbrev pub marked_at : List ℕ → Bool → ℕ → Bool
-marked_at board tall c = mark_at board (cond tall up across) c
+abbrev pub marked_at : Board → Bool → ℕ → Bool
+marked_at board tall c = mark_at (cond tall board.up board.across) c
 
 -- What the filling and the tracing read besides the cells: the pieces, by index from 0, and the marks of P and Q.
 pub record Rows : Type 0 where
@@ -79,7 +60,7 @@ pub record Rows : Type 0 where
   pub in_p : ℕ → Bool
   pub in_q : ℕ → Bool
 
-unfoldable pub rows_on : List ℕ → Rows
+unfoldable pub rows_on : Board → Rows
 rows_on board =
     record {
       count = count_on board;
@@ -91,7 +72,7 @@ rows_on board =
     }
 
 -- The pieces that stand on a board, for reading.
-unfoldable pub pieces_on : List ℕ → List Piece
+unfoldable pub pieces_on : Board → List Piece
 pieces_on board = by_index (λ k. sized (width_at board k) (height_at board k) (value_at board k)) (count_on board)
 
 -- The points of P and Q (rules 3.1 to 3.3), here as tests that compute, found in one pass from small to large.
@@ -126,22 +107,15 @@ reaches size n c = get_or (reaches_up_to size n c) c false
 unfoldable pub is_point : (ℕ → ℕ) → ℕ → ℕ → ℕ → Bool
 is_point size n side c = elim (leb c side) [ true ↦ reaches size n c | false ↦ false ]
 
--- A mark is 1, no mark 0.
-abbrev pub bit : Bool → ℕ
-bit b = cond b 1 0
-
 -- The marks of the numbers that pass a test.
-unfoldable pub mark_row : (ℕ → Bool) → List ℕ
-mark_row test = by_index (λ c. bit (test c)) mark_count
+unfoldable pub mark_row : (ℕ → Bool) → List Bool
+mark_row test = by_index test mark_count
 
 -- The marks of a side of the sheet.
-unfoldable pub marks_of : (ℕ → ℕ) → ℕ → ℕ → List ℕ
+unfoldable pub marks_of : (ℕ → ℕ) → ℕ → ℕ → List Bool
 marks_of size n side = mark_row (is_point size n side)
 
 -- How they are found: the sizes are marked first, then each number from small to large by the steps, which are the sizes that no step before them leads to.
-
-unfoldable pub marked_by : List ℕ → ℕ → (ℕ → Bool) → List ℕ
-marked_by board marks test = put board marks (mark_row test)
 
 -- Is c a number of the side?
 unfoldable pub is_within : ℕ → ℕ → Bool
@@ -151,12 +125,13 @@ is_within side c = leb 1 c && leb c side
 unfoldable pub is_size : (ℕ → ℕ) → ℕ → ℕ → ℕ → Bool
 is_size size n side c = is_within side c && any_below (λ k. eqb (size k) c) n
 
--- With the mark of a size s, and of all sizes.
-unfoldable pub with_size : List ℕ → ℕ → ℕ → ℕ → List ℕ
-with_size board marks side s = cond (is_within side s) (set board (marks + s) 1) board
+-- What a call gives for the record at index k, by its `post`, is `size k`.
+abbrev pub Gives : (Record → ℕ → Type 0) → List Record → (ℕ → ℕ) → Type 0
+Gives post records size = (k r : ℕ) → k < length records → post (get_or records k no_record) r → r ≡ size k
 
-unfoldable pub with_sizes : List ℕ → ℕ → ℕ → ℕ → List ℕ
-with_sizes board sizes marks side = marked_by board marks (is_size (entry_at board sizes) (count_on board) side)
+-- The marks of the sizes.
+unfoldable pub size_marks : (ℕ → ℕ) → ℕ → ℕ → List Bool
+size_marks size n side = mark_row (is_size size n side)
 
 abbrev pub step_at : List ℕ → ℕ → ℕ
 step_at steps j = get_or steps j 0
@@ -174,33 +149,32 @@ leads made step held c = any_below (λ j. leb (tried_from (step j)) c && made (c
 
 -- The board of a job.
 
-abbrev pub measure_of : Measure → Record → ℕ
-measure_of Width r = r.width
-measure_of Height r = r.height
-measure_of Value r = r.value
+abbrev pub no_marks : List Bool
+no_marks = replicate mark_count false
 
--- One number of each piece.
-unfoldable pub entries_of : Measure → Job → List ℕ
-entries_of measure job = by_index (λ k. measure_of measure (get_or job.pieces k no_record)) job.count
-
-abbrev pub blank : List ℕ
-blank = replicate places 0
-
-unfoldable pub with_sides : Job → List ℕ → List ℕ
-with_sides job board = put board 0 (job.width ∷ job.height ∷ job.count ∷ [])
-
--- With the sides and the pieces: all that reading a plan file needs.
-unfoldable pub pieces_board : Job → List ℕ
+-- With the sides and the pieces: all that reading a plan file needs. A job has fewer pieces than there are entries, so `min` cuts none.
+unfoldable pub pieces_board : Job → Board
 pieces_board job =
-    put (put (put (with_sides job blank) widths (entries_of Width job)) heights (entries_of Height job)) values (entries_of Value job)
+    record {
+      width = job.width;
+      height = job.height;
+      count = min job.count entries;
+      pieces = job.pieces ++ replicate (entries - pieces_max) no_record;
+      across = no_marks;
+      up = no_marks;
+      few = min-le_right job.count entries;
+    }
 
 -- With the marks of P and Q, found from the entries.
-unfoldable pub with_points : List ℕ → List ℕ
+unfoldable pub with_points : Board → Board
 with_points board =
-    put (put board across (marks_of (width_at board) (count_on board) (width_on board))) up (marks_of (height_at board) (count_on board) (height_on board))
+    record board {
+      across = marks_of (width_at board) (count_on board) (width_on board);
+      up = marks_of (height_at board) (count_on board) (height_on board);
+    }
 
 -- All that the engine knows of a job.
-unfoldable pub board_of : Job → List ℕ
+unfoldable pub board_of : Job → Board
 board_of job = with_points (pieces_board job)
 
 -- What the rows of a board hold of a list of pieces: index k is piece number k + 1.
@@ -213,27 +187,3 @@ pub record Hold (rows : Rows) (pieces : List Piece) (a b : ℕ) : Type 0 where
   pub lists : Lists rows pieces
   pub in_p : (c : ℕ) → c ≤ a → Says (rows.in_p c) (P (Lays pieces) a c)
   pub in_q : (d : ℕ) → d ≤ b → Says (rows.in_q d) (Q (Lays pieces) b d)
-
--- What the marking asks of a board.
-
--- There is no mark yet.
-pub record Unmarked (board : List ℕ) (marks : ℕ) : Type 0 where
-  pub zeros : (c : ℕ) → c < mark_count → get_or board (marks + c) 0 ≡ 0
-
--- Up to a side, from the sizes, which stand before the marks.
-pub record Markable (board : List ℕ) (sizes marks side : ℕ) : Type 0 where
-  pub few : count_on board ≤ entries
-  pub apart : sizes + entries ≤ marks
-  pub room : marks + mark_count ≤ places
-  pub long : length board ≡ places
-  pub within : side ≤ side_max
-  pub none : Unmarked board marks
-
--- A board with sides and pieces and no marks.
-pub record Pieced (board : List ℕ) : Type 0 where
-  pub long : length board ≡ places
-  pub few : count_on board ≤ entries
-  pub wide : width_on board ≤ side_max
-  pub high : height_on board ≤ side_max
-  pub none_across : Unmarked board across
-  pub none_up : Unmarked board up

@@ -1,2 +1,2 @@
--- The board: one row with all that the engine knows of a job.
+-- The board: all that the engine knows of a job.
 pub mod Inner

@@ -1,115 +1,110 @@
-// The board: one row, lent by the caller, with all that the engine knows of a job. Its named places are known here alone.
-// pieces.rt: the job's sides and pieces on it; points.rt: the marks of P and Q; line.rt: what a line leaves.
+// The board: all that the engine knows of a job, read from it once.
+// points.rt: the marks of P and Q; line.rt: what a line leaves.
 #![tactic(auto)]
 
-ghost use Rattle.std.specs.Prelude.{◌≡◌, ◌≤◌, ◌<◌};
-ghost use Rattle.cutting.specs.Limits.{side_max, pieces_max};
-ghost use Rattle.job.specs.Range.{JobInRange};
-ghost use Rattle.board.specs.Inner.{entries, blank, width_on, height_on, count_on, width_at, height_at, value_at, marked_at, pieces_board, board_of};
+ghost use Rattle.std.specs.Prelude.{◌≤◌};
+ghost use Rattle.board.specs.declared.TheConstants.{ENTRIES};
 
-use fields::cast::wide;
-use job::Job;
-use pieces::{Measure, set_entries, set_sides};
-use points::set_points;
+use job::{Job, Piece};
+use points::marks_of;
 
 pub mod line;
-mod pieces;
 mod points;
 
-pub const WIDTH: usize = 0;
-
-pub const HEIGHT: usize = 1;
-
-pub const COUNT: usize = 2;
-
-// Room for an entry of each kind: more than a job has pieces.
+// Room for records: more than a job has pieces.
 pub const ENTRIES: usize = 128;
 
-pub const WIDTHS: usize = 3;
-
-pub const HEIGHTS: usize = WIDTHS + ENTRIES;
-
-pub const VALUES: usize = HEIGHTS + ENTRIES;
-
-// One mark for each number that a side can be, and one for zero, which is never set. A mark is 1, no mark 0.
+// One mark for each number that a side can be, and one for zero, which is never set.
 pub const MARKS: usize = Job::SIDE_MAX as usize + 1;
 
-pub const ACROSS: usize = VALUES + ENTRIES;
+pub type Marks = [bool; MARKS];
 
-pub const UP: usize = ACROSS + MARKS;
-
-pub const PLACES: usize = UP + MARKS;
-
-pub type Board = [u16; PLACES];
-
-pub fn width(board: &Board) -> usize
-    ensures { result ≡ width_on board.now }
-{
-    wide(board[WIDTH])
+// What the engine reads of a job besides the cells.
+#[derive(Drop)]
+pub struct Board {
+    width: u16,
+    height: u16,
+    count: u16,
+    pieces: [Piece; ENTRIES],
+    across: Marks,
+    up: Marks,
+    pub ghost few: { count ≤ ENTRIES },
 }
 
-pub fn height(board: &Board) -> usize
-    ensures { result ≡ height_on board.now }
-{
-    wide(board[HEIGHT])
-}
+impl Board {
+    ghost use Rattle.std.specs.Prelude.{◌≡◌, ◌<◌};
+    ghost use Rattle.cutting.specs.Limits.{side_max, pieces_max};
+    ghost use Rattle.job.specs.Range.{JobInRange};
+    ghost use Rattle.board.specs.Inner.{entries, width_on, height_on, count_on, width_at, height_at, value_at, marked_at, pieces_board, board_of};
 
-pub fn count(board: &Board) -> usize
-    ensures { result ≡ count_on board.now }
-{
-    wide(board[COUNT])
-}
-
-pub fn piece_width(board: &Board, k: usize) -> u16
-    requires { k < entries }
-    ensures { result ≡ width_at board.now k }
-{
-    board[WIDTHS + k]
-}
-
-pub fn piece_height(board: &Board, k: usize) -> u16
-    requires { k < entries }
-    ensures { result ≡ height_at board.now k }
-{
-    board[HEIGHTS + k]
-}
-
-pub fn piece_value(board: &Board, k: usize) -> u16
-    requires { k < entries }
-    ensures { result ≡ value_at board.now k }
-{
-    board[VALUES + k]
-}
-
-// Is c a point: of the height (Q) where `tall`, else of the width (P)?
-pub fn marked(board: &Board, tall: bool, c: usize) -> bool
-    requires { c ≤ side_max }
-    ensures { result ≡ marked_at board.now tall c }
-{
-    if tall {
-        return board[UP + c] == 1;
+    // The job's sides and pieces, without marks: all that reading a plan file needs.
+    pub fn of_pieces(job: &Job) -> Board
+        requires { job.now.count ≤ pieces_max }
+        ensures { result ≡ pieces_board job.now }
+    {
+        let mut pieces = [Piece {
+            width: 0,
+            height: 0,
+            value: 0,
+        }; ENTRIES];
+        pieces[..job.pieces.len()].copy_from_slice(&job.pieces);
+        Board {
+            width: job.width,
+            height: job.height,
+            count: job.count,
+            pieces,
+            across: [false; MARKS],
+            up: [false; MARKS],
+        }
     }
-    board[ACROSS + c] == 1
-}
 
-// The job's sides and pieces on a blank board: all that reading a plan file needs.
-pub fn set_pieces(board: &mut Board, job: Job)
-    requires count_le_pieces_max { job.count ≤ pieces_max }
-    requires board_value { board.old ≡ blank }
-    ensures { board.new ≡ pieces_board job }
-{
-    set_sides(board, job);
-    set_entries(board, WIDTHS, job, Measure::Width);
-    set_entries(board, HEIGHTS, job, Measure::Height);
-    set_entries(board, VALUES, job, Measure::Value);
-}
+    // The whole board of a job: its pieces, and the marks of P from their widths and of Q from their heights.
+    pub fn of(job: &Job) -> Board
+        requires { JobInRange job.now }
+        ensures { result ≡ board_of job.now }
+    {
+        let mut board = Board::of_pieces(job);
+        let pieces = &board.pieces[..board.count()];
+        let across = marks_of(pieces, |piece| piece.width, board.width());
+        let up = marks_of(pieces, |piece| piece.height, board.height());
+        board.across = across;
+        board.up = up;
+        board
+    }
 
-// The whole board of a job: its pieces, and the marks of P from their widths and of Q from their heights.
-pub fn lay_out(board: &mut Board, job: Job)
-    requires job_in_range { JobInRange job }
-    requires board_value { board.old ≡ blank }
-    ensures { board.new ≡ board_of job }
-{
-    set_pieces(board, job);
-    set_points(board);
+    pub fn width(&self) -> usize
+        ensures { result ≡ width_on self.now }
+    {
+        usize::from(self.width)
+    }
+
+    pub fn height(&self) -> usize
+        ensures { result ≡ height_on self.now }
+    {
+        usize::from(self.height)
+    }
+
+    pub fn count(&self) -> usize
+        ensures { result ≡ count_on self.now }
+    {
+        usize::from(self.count)
+    }
+
+    pub fn piece(&self, k: usize) -> Piece
+        requires { k < entries }
+        ensures width { result.width ≡ width_at self.now k }
+        ensures height { result.height ≡ height_at self.now k }
+        ensures value { result.value ≡ value_at self.now k }
+    {
+        self.pieces[k]
+    }
+
+    // Is c a point: of the height (Q) where `tall`, else of the width (P)?
+    pub fn marked(&self, tall: bool, c: usize) -> bool
+        requires { c ≤ side_max }
+        ensures { result ≡ marked_at self.now tall c }
+    {
+        let marks = if tall { &self.up } else { &self.across };
+        marks[c]
+    }
 }

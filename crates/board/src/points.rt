@@ -1,105 +1,102 @@
-// The points of P and Q as marks, found from the entries on the board in one pass from small to large. Widths and heights are
-// one code: it gets the first place of the sizes, the first place of the marks and the side.
-ghost use Rattle.std.specs.Prelude.{cond, ◌≡◌, ◌+◌, ◌≤◌};
-ghost use Rattle.laws.specs.Put.{put};
+// The points of P and Q as marks, found in one pass from small to large. Widths and heights are one code: it gets the size of a piece.
+ghost use Rattle.std.specs.Prelude.{◌≡◌, ℕ, ◌+◌, ◌<◌, ◌≤◌, List, [], ◌∷◌, ◌++◌, length, take};
 ghost use Rattle.cutting.specs.Limits.{side_max};
-ghost use Rattle.board.specs.Inner.{places, mark_count, mark_at, entry_at, step_at, count_on, with_size, with_sizes, leads, Rising, marks_of, Markable, Pieced, with_points};
+ghost use Rattle.board.specs.declared.TheConstants.{MARKS};
+ghost use Rattle.board.specs.Inner.{mark_at, step_at, Gives, size_marks, leads, Rising, marks_of};
 
-use crate::{ACROSS, Board, HEIGHTS, MARKS, UP, WIDTHS, count, height, width};
-use fields::cast::{narrow, wide};
+use crate::{MARKS, Marks};
+use job::Piece;
+use std::marker::Model;
 
-// The steps that were found, with room for one at each number.
-type Steps = [u16; MARKS];
-
-// Marks a size that is at most the side; 0 is no point (rule 3.3).
-fn mark_size(board: &mut Board, marks: usize, size: usize, side: usize)
-    requires { (marks + mark_count ≤ places) × (side ≤ side_max) }
-    ensures { board.new ≡ with_size board.old marks side size }
-{
-    if size < 1 {
-        return;
-    }
-    if side < size {
-        return;
-    }
-    board[marks + size] = 1;
+// The steps that were found, with room for one at each number: a list in fixed memory.
+#[derive(Drop)]
+struct Steps {
+    row: [u16; MARKS],
+    held: usize,
 }
 
-// Marks the sizes themselves: each is a sum of one (rule 3.1).
-fn mark_sizes(board: &mut Board, sizes: usize, marks: usize, side: usize)
-    requires { Markable board.old sizes marks side }
-    ensures { board.new ≡ with_sizes board.old sizes marks side }
-{
-    let n = count(board);
-    for k in 0..n {
-        let size = wide(board[sizes + k]);
-        mark_size(board, marks, size, side);
+impl Model for Steps {
+    ghost Value = { List ℕ };
+
+    ghost view = { λ s. take s.held s.row };
+
+    ghost invariant = { λ s. s.held ≤ MARKS };
+}
+
+impl Steps {
+    fn new() -> Steps
+        ensures { result ≡ [] }
+    {
+        Steps {
+            row: [0; MARKS],
+            held: 0,
+        }
+    }
+
+    fn push(&mut self, step: u16)
+        requires { length self.old < MARKS }
+        ensures { self.new ≡ self.old ++ step ∷ [] }
+    {
+        self.row[self.held] = step;
+        self.held += 1;
+    }
+
+    fn as_slice(&self) -> &[u16]
+        ensures { result.now ≡ self.now }
+    {
+        &self.row[..self.held]
     }
 }
 
-// Whether one of the first `held` steps, which rise, leads to `c`: it is at most half of it, and what it leaves is marked.
-fn led(board: &Board, marks: usize, steps: &Steps, held: usize, c: usize) -> bool
-    requires mark_count_bound { (marks + mark_count ≤ places) × (c ≤ side_max) }
-    requires held_le_side_max { (held ≤ side_max) × Rising (step_at steps.now) held }
-    ensures { result ≡ leads (mark_at board.now marks) (step_at steps.now) held c }
+// Marks the sizes themselves: each is a sum of one (rule 3.1). Those above the side are no points, and 0 is none (rule 3.3).
+fn size_marks<F: Fn(Piece) -> u16>(pieces: &[Piece], size: F, side: usize) -> Marks
+    requires within { side ≤ side_max }
+    requires callable { F.IsAlwaysCallable size }
+    ensures { (of : ℕ → ℕ) → Gives (F.post size) pieces.now of → result ≡ size_marks of (length pieces.now) side }
 {
-    let mut j: usize = 0;
-    while j < held {
-        let step = wide(steps[j]);
+    let mut marks = [false; MARKS];
+    for piece in pieces {
+        let own = usize::from(size(*piece));
+        if 1 <= own && own <= side {
+            marks[own] = true;
+        }
+    }
+    marks
+}
+
+// Whether one of the steps, which rise, leads to `c`: it is at most half of it, and what it leaves is marked.
+fn led(marks: &Marks, steps: &[u16], c: usize) -> bool
+    requires bound { c ≤ side_max }
+    requires rising { Rising (step_at steps.now) (length steps.now) }
+    ensures { result ≡ leads (mark_at marks.now) (step_at steps.now) (length steps.now) c }
+{
+    for step in steps {
+        let step = usize::from(*step);
         if c < 2 * step {
             return false;
         }
-        if board[marks + (c - step)] == 1 {
+        if marks[c - step] {
             return true;
         }
-        j += 1;
     }
     false
 }
 
-// The mark of a number: a step leads to it, or it has its own as a size.
-fn mark_of(led: bool, own: u16) -> u16
-    ensures { result ≡ cond led 1 own }
-{
-    if led { 1 } else { own }
-}
-
-// How many steps there are after a number: a size that no step leads to is one.
-fn held_after(held: usize, led: bool, own: u16) -> usize
-    requires { held ≤ side_max }
-    ensures { result ≡ cond led held (held + own) }
-{
-    if led { held } else { held + wide(own) }
-}
-
 // Marks each number up to `side` that is a sum of one or more sizes, each as often as one likes (rules 3.1 and 3.2), from small to
 // large. A step is a size that no step before it leads to: whatever such a size would lead to, they do.
-fn mark(board: &mut Board, sizes: usize, marks: usize, side: usize)
-    requires { Markable board.old sizes marks side }
-    ensures { board.new ≡ put board.old marks (marks_of (entry_at board.old sizes) (count_on board.old) side) }
+pub(crate) fn marks_of<F: Fn(Piece) -> u16>(pieces: &[Piece], size: F, side: usize) -> Marks
+    requires within { side ≤ side_max }
+    requires callable { F.IsAlwaysCallable size }
+    ensures { (of : ℕ → ℕ) → Gives (F.post size) pieces.now of → result ≡ marks_of of (length pieces.now) side }
 {
-    mark_sizes(board, sizes, marks, side);
-    let mut steps: Steps = [0; MARKS];
-    let mut held: usize = 0;
-    let mut last: usize = 0;
-    while last < side {
-        last += 1;
-        let own = board[marks + last];
-        let by_step = led(board, marks, &steps, held, last);
-        board[marks + last] = mark_of(by_step, own);
-        // Behind the last step, where it counts only if it is one.
-        steps[held] = narrow(last);
-        held = held_after(held, by_step, own);
+    let mut marks = size_marks(pieces, size, side);
+    let mut steps = Steps::new();
+    for last in 1..=side {
+        if led(&marks, steps.as_slice(), last) {
+            marks[last] = true;
+        } else if marks[last] {
+            steps.push(last as u16);
+        }
     }
-}
-
-// Marks P from the widths and Q from the heights.
-pub(crate) fn set_points(board: &mut Board)
-    requires { Pieced board.old }
-    ensures { board.new ≡ with_points board.old }
-{
-    let a = width(board);
-    let b = height(board);
-    mark(board, WIDTHS, ACROSS, a);
-    mark(board, HEIGHTS, UP, b);
+    marks
 }

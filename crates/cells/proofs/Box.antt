@@ -1,12 +1,14 @@
 -- The laws of the tests over a box: what they say of each cell, and one row or one cell more for the loops.
-use Prim.Native.Nat.{ℕ, suc, ◌+◌, ◌-◌, ◌*◌, ◌≤◌, ◌<◌}
+use Prim.Native.Nat.{ℕ, zero, suc, ◌+◌, ◌-◌, ◌*◌, ◌≤◌, ◌<◌}
 use mathlib.Core.Bool.{Bool, true, false, ◌||◌}
 use mathlib.Core.Path.{◌≡◌, sym, ap, ap₂, ◌∙◌}
 use mathlib.Core.List.{List}
 use native.Mathlib.Omega.{arith}
 use native.Mathlib.Numerals.{add-one}
 use native.Mathlib.Nat.{mul_comm, add-mul}
-use Rattle.laws.specs.Inner.{Says}
+use Rattle.std.proofs.Math.Bool.{or-false, or_assoc}
+use Rattle.std.specs.List.{list_any, range_with_len}
+use Rattle.laws.specs.Inner.{Says, any_below}
 use Rattle.laws.specs.Below.{sum_below}
 use Rattle.laws.proofs.Says.{says_and, says_not, says_lt, says_eq, says_iff}
 use Rattle.laws.proofs.Below.{any_below_none, any_below_more, any_below_says, any_below_same, sum_below_none, sum_below_more, sum_below_same}
@@ -15,7 +17,7 @@ use Rattle.cutting.specs.Limits.{value_max}
 use Rattle.cutting.specs.Piece.{Inside}
 use Rattle.cells.specs.Cells.{empty, cell_of}
 use Rattle.cells.specs.Box.{counted, count_in_row, count_in_box, is_empty}
-use Rattle.cells.specs.Inner.{any_in_row, any_in_box, too_much, exceeds, sought_in, sought}
+use Rattle.cells.specs.Inner.{any_in_row, any_in_box, too_much, exceeds, asked}
 
 -- The tests of one cell.
 pub is_empty_says : (a : ℕ) (t : List ℕ) (u w : ℕ) → Says (is_empty a t u w) (cell_of a t u w ≡ empty)
@@ -93,42 +95,44 @@ any_in_row_more i w test = any_below_more (λ k. test (suc k) w) i ∙ ap (λ u.
 pub column_more : (i w : ℕ) {m : ℕ} → m ≡ i * w * value_max → m + w * value_max ≡ (i + 1) * w * value_max
 column_more i w e = omega (arith, add-mul i 1 w)
 
--- One column more, for a walk along row w that looks for a sought cell: the next one has the number v and may earn m.
-pub row_sought : {found here : Bool} (e : Bool) (a : ℕ) (t : List ℕ) (i w : ℕ) {v m : ℕ} → found ≡ any_in_row i w (sought e a t) → here ≡ sought_in e v m
-    → v ≡ cell_of a t (i + 1) w → m ≡ (i + 1) * w * value_max → (found || here) ≡ any_in_row (i + 1) w (sought e a t)
-unfolding sought
-row_sought e a t i w f h v m = ap₂ ◌||◌ f (h ∙ ap₂ (sought_in e) v m) ∙ sym (any_in_row_more i w (sought e a t))
+-- One column more, for a walk along row w: the next cell has the number v and may earn m.
+pub row_asked : {found here : Bool} (test : ℕ → ℕ → Bool) (a : ℕ) (t : List ℕ) (i w : ℕ) {v m : ℕ} → found ≡ any_in_row i w (asked test a t)
+    → here ≡ test v m → v ≡ cell_of a t (i + 1) w → m ≡ (i + 1) * w * value_max → (found || here) ≡ any_in_row (i + 1) w (asked test a t)
+unfolding asked
+row_asked test a t i w f h v m = ap₂ ◌||◌ f (h ∙ ap₂ test v m) ∙ sym (any_in_row_more i w (asked test a t))
 
-pub any_in_box_none : (x : ℕ) (test : ℕ → ℕ → Bool) → any_in_box x 0 test ≡ false
-unfolding any_in_box
-any_in_box_none x test = any_below_none _
+-- The rows of a box, asked one after the other from the first on.
+pub any_in_rows : (x y : ℕ) (test : ℕ → ℕ → Bool) → list_any (λ w. any_in_row x w test) (range_with_len 1 y) ≡ any_in_box x y test
+unfolding any_in_box any_below
+any_in_rows x y test = listed (λ w. any_in_row x w test) 1 y ∙ any_below_same _ _ y (λ j h. ap (λ w. any_in_row x w test) (omega arith))
+  where
+    first : (f : ℕ → Bool) (n : ℕ) → any_below f (suc n) ≡ f 0 || any_below (λ j. f (suc j)) n
+    first f zero = sym (or-false (f 0))
+    first f (suc n) = ap (λ b. b || f (suc n)) (first f n) ∙ or_assoc (f 0) _ _
 
-pub any_in_box_more : (x j : ℕ) (test : ℕ → ℕ → Bool) → any_in_box x j test ≡ false → any_in_row x (j + 1) test ≡ false → any_in_box x (j + 1) test ≡ false
-unfolding any_in_box
-any_in_box_more x j test e f =
-    any_below_more (λ k. any_in_row x (suc k) test) j ∙ ap₂ ◌||◌ e (ap (λ w. any_in_row x w test) (sym (add-one j)) ∙ f)
+    listed : (f : ℕ → Bool) (k n : ℕ) → list_any f (range_with_len k n) ≡ any_below (λ j. f (k + j)) n
+    listed f k zero = sym (any_below_none (λ j. f (k + j)))
+    listed f k (suc n) =
+        ap₂ ◌||◌ (ap f (omega arith)) (listed f (k + 1) n ∙ any_below_same (λ j. f (k + 1 + j)) (λ j. f (k + suc j)) n (λ j h. ap f (omega arith)))
+        ∙ sym (first (λ j. f (k + j)) n)
 
-pub any_in_box_found : (x : ℕ) {j y : ℕ} (test : ℕ → ℕ → Bool) → j < y → any_in_row x (j + 1) test ≡ true → any_in_box x y test ≡ true
-unfolding any_in_box
-any_in_box_found x {j} {y} test h e =
-    (any_below_says (λ k. any_in_row x (suc k) test) y).found (j, h, ap (λ w. any_in_row x w test) (sym (add-one j)) ∙ e)
-
-pub any_in_box_end : {j y : ℕ} (x : ℕ) (test : ℕ → ℕ → Bool) → j ≡ y → any_in_box x j test ≡ false → false ≡ any_in_box x y test
-any_in_box_end x test e f = sym f ∙ ap (λ k. any_in_box x k test) e
-
-pub count_in_row_more : (i w : ℕ) (test : ℕ → ℕ → Bool) → count_in_row (i + 1) w test ≡ count_in_row i w test + counted (test (i + 1) w)
+pub count_in_row_more : (i : ℕ) {u : ℕ} (w : ℕ) (test : ℕ → ℕ → Bool) → u ≡ i + 1 → count_in_row u w test ≡ count_in_row i w test + counted (test u w)
 unfolding count_in_row
-count_in_row_more i w test =
-    sum_below_more (λ k. counted (test (suc k) w)) i ∙ ap (λ u. sum_below (λ k. counted (test (suc k) w)) i + counted (test u w)) (sym (add-one i))
+count_in_row_more i {u} w test next =
+    let at : suc i ≡ u = omega arith in
+    ap (sum_below (λ k. counted (test (suc k) w))) next
+    ∙ (sum_below_more (λ k. counted (test (suc k) w)) i ∙ ap (λ m. sum_below (λ k. counted (test (suc k) w)) i + counted (test m w)) at)
 
 pub count_in_box_none : (x : ℕ) (test : ℕ → ℕ → Bool) → count_in_box x 0 test ≡ 0
 unfolding count_in_box
 count_in_box_none x test = sum_below_none _
 
-pub count_in_box_more : (x j : ℕ) (test : ℕ → ℕ → Bool) → count_in_box x (j + 1) test ≡ count_in_box x j test + count_in_row x (j + 1) test
+pub count_in_box_more : (x j : ℕ) {w : ℕ} (test : ℕ → ℕ → Bool) → w ≡ j + 1 → count_in_box x w test ≡ count_in_box x j test + count_in_row x w test
 unfolding count_in_box
-count_in_box_more x j test =
-    sum_below_more (λ k. count_in_row x (suc k) test) j ∙ ap (λ w. sum_below (λ k. count_in_row x (suc k) test) j + count_in_row x w test) (sym (add-one j))
+count_in_box_more x j {w} test next =
+    let at : suc j ≡ w = omega arith in
+    ap (sum_below (λ k. count_in_row x (suc k) test)) next
+    ∙ (sum_below_more (λ k. count_in_row x (suc k) test) j ∙ ap (λ n. sum_below (λ k. count_in_row x (suc k) test) j + count_in_row x n test) at)
 
 -- A test that is the same in every cell of a box counts all of its cells, or none.
 count_in_box_each : (x y : ℕ) (test : ℕ → ℕ → Bool) (b : Bool) → ((u w : ℕ) → Inside u w x y → test u w ≡ b) → count_in_box x y test ≡ y * (x * counted b)

@@ -72,3 +72,17 @@ same_place {a} i j e = (
   sym (place_column i) ∙ (ap (λ k. k % a + 1) e ∙ place_column j),
   sym (place_row i) ∙ (ap (λ k. k / a + 1) e ∙ place_row j),
 )
+
+-- The first x places of row w are in the table.
+pub row_within : {a w : ℕ} {t : List ℕ} (x : ℕ) → Holds a w t → x ≤ a → place a 1 w + x ≤ a * w
+unfolding place
+row_within {a} {w} x s h =
+    let k : suc (w - 1) * a ≤ w * a = mul-le-mul_right a (omega arith) in
+    omega (arith, suc-mul (w - 1) a, mul_comm a w)
+
+-- The rest of row y from column x on ends where the sheet a by y does.
+pub row_rest : {a x y : ℕ} → Inside x y a y → place a x y + (a + 1 - x) ≡ a * y
+unfolding place
+row_rest {a} {x} {y} i =
+    let k : suc (y - 1) * a ≡ y * a = ap (λ (n : ℕ). n * a) (omega arith) in
+    omega (arith, suc-mul (y - 1) a, mul_comm a y)

@@ -9,11 +9,13 @@ use lib.ListN.{length, get_or, set, get_or-eq_default}
 use lib.Seq.{get_or-set_same, get_or-set_other}
 use lib.Dec.{ltb}
 use borrow.Author.Tests.{lt-ltb, le-ltb}
+use Rattle.std.proofs.lemmas.List.Edits.{get_or-between}
+use Rattle.std.specs.List.{between}
 use Rattle.laws.proofs.Order.{le_or_lt}
 use Rattle.laws.proofs.ByIndex.{by_index-length, by_index_at, is_by_index, by_index_same}
 use Rattle.cutting.specs.Piece.{Inside}
 use Rattle.cells.specs.Cells.{empty, place, cell_of}
-use Rattle.cells.specs.Inner.{redrawn}
+use Rattle.cells.specs.Inner.{redrawn, Holds}
 use Rattle.cells.proofs.Places.{place_below, place_column, place_row, cell_inside, cell_place, same_place}
 
 -- What index k of the redrawn row holds, by whether it is a cell.
@@ -98,6 +100,12 @@ read_cell {x} {y} {a} t room i k e = any_default t k (omega (arith, place_below 
     any_default [] k h = absurd (omega arith)
     any_default (v ∷ t) zero h = refl
     any_default (v ∷ t) (suc k) h = any_default t k (omega arith)
+
+-- The cells of a row stand beside one another.
+pub row_cell : {a w : ℕ} (t : List ℕ) (x k : ℕ) {first : ℕ} → Holds a w t → x ≤ a → first ≡ place a 1 w → k < x
+    → get_or (between first (first + x) t) k 0 ≡ cell_of a t (k + 1) w
+unfolding place
+row_cell t x k s h e l = get_or-between t _ _ k 0 (omega arith) ∙ read_cell t s.room (omega (arith, s)) _ (omega arith)
 
 -- A store to cell (x, y), as cell_of sees it.
 pub store_same : {x y a b : ℕ} (t : List ℕ) (v : ℕ) → a * b ≤ length t → Inside x y a b → cell_of a (set t (place a x y) v) x y ≡ v

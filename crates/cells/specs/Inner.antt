@@ -1,5 +1,5 @@
 -- What only contracts inside and proofs need; nobody has to believe it. Rows that compute are tied to `Empties` by `empties_exactly`.
-use Rattle.std.specs.Prelude.{ℕ, ◌+◌, ◌*◌, ◌/◌, ◌%◌, ◌≤◌, suc, cond, Bool, ◌&&◌, true, false, not, List, length, get_or, ltb, leb, eqb}
+use Rattle.std.specs.Prelude.{ℕ, ◌+◌, ◌*◌, ◌/◌, ◌%◌, ◌≤◌, suc, cond, Bool, ◌&&◌, not, List, length, get_or, ltb, leb, eqb, ◌≡◌}
 use Rattle.laws.specs.ByIndex.{by_index}
 use Rattle.cutting.specs.Limits.{side_max, value_max}
 use Rattle.laws.specs.Inner.{any_below}
@@ -61,10 +61,10 @@ too_much v m = not (eqb v empty) && ltb m v
 unfoldable pub exceeds : ℕ → List ℕ → ℕ → ℕ → Bool
 exceeds a t u w = too_much (cell_of a t u w) (u * w * value_max)
 
--- What a walk over a box looks for: an empty cell, or else one that exceeds. First for the number v of a cell that may earn m.
-unfoldable pub sought_in : Bool → ℕ → ℕ → Bool
-sought_in true v m = eqb v empty
-sought_in false v m = too_much v m
+-- The closure's answer is the test's, for a cell's number and the most that the cell may earn.
+abbrev pub Answers : (ℕ → ℕ → Bool → Type 0) → (ℕ → ℕ → Bool) → Type 0
+Answers post test = (value most : ℕ) (r : Bool) → post value most r → r ≡ test value most
 
-unfoldable pub sought : Bool → ℕ → List ℕ → ℕ → ℕ → Bool
-sought e a t u w = sought_in e (cell_of a t u w) (u * w * value_max)
+-- That test at cell (u, w).
+unfoldable pub asked : (ℕ → ℕ → Bool) → ℕ → List ℕ → ℕ → ℕ → Bool
+asked test a t u w = test (cell_of a t u w) (u * w * value_max)

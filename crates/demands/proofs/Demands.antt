@@ -15,7 +15,8 @@ use Rattle.job.specs.declared.Job.{Job}
 use Rattle.job.specs.Block.{block_of, job_in, BlockShape}
 use Rattle.job.specs.Inner.{from_block}
 use Rattle.job.proofs.Blocks.{from_block_yes, shape_says}
-use Rattle.desk.specs.Refusals.{not_inside, alien_table, ask_refusals, AskRefusal}
+use Rattle.refusals.specs.Refusals.{not_inside, alien_table}
+use Rattle.desk.specs.Refusals.{ask_refusals, AskRefusal}
 use Rattle.khonvertseg.specs.declared.KhonAsked.{KhonAsked}
 use Rattle.khonvertseg.specs.Calls.{KhonAsks}
 use Rattle.demands.specs.History.{History, Covered, SameSheet, cell, Filled, OnSheet, BestFor}

@@ -11,6 +11,7 @@ use job::{Job, Piece};
 use refusals::Refusal;
 
 // The record of piece `number`.
+#[tactic(auto, unfolding(crate::specs::Changing::record_of_piece))]
 fn piece_of(job: &Job, number: u32) -> Piece
     requires count_le_pieces_max { job.now.count ≤ pieces_max }
     requires number { IsNumber job.now number }
@@ -20,6 +21,7 @@ fn piece_of(job: &Job, number: u32) -> Piece
 }
 
 // Empties the cells of the job's sheet where a size fits.
+#[tactic(auto, unfolding(crate::specs::Inner::emptied_size))]
 fn empty_size(job: &Job, t: &mut [u32], size: Piece)
     requires usable { Usable job.now t.old }
     requires le_width { (1 ≤ size.width) × (1 ≤ size.height) }
@@ -35,6 +37,7 @@ fn empty_size(job: &Job, t: &mut [u32], size: Piece)
 }
 
 // Empties the cells of the sheet width by height and answers a job with no pieces.
+#[tactic(auto, using(crate::proofs::Granted::open_granted))]
 pub fn open(width: u32, height: u32, t: &mut [u32]) -> Result<Job, Refusal>
     ensures { OpenPromise width height t.old (changed_from zero_job result) t.new }
 {
@@ -45,29 +48,32 @@ pub fn open(width: u32, height: u32, t: &mut [u32]) -> Result<Job, Refusal>
 }
 
 // Adds a piece behind the others.
+#[tactic(auto, using(crate::proofs::Granted::add_granted))]
 pub fn add(job: Job, t: &mut [u32], piece: Piece) -> Result<Job, Refusal>
     ensures { AddPromise job t.old piece (changed_from job result) t.new }
 {
-    refusal::of_add(job, t, piece)?;
+    refusal::of_add(&job, t, piece)?;
     empty_size(&job, t, piece);
     Ok(job.with_added(piece))
 }
 
 // Puts another record in the place of piece `number`. What the old size or the new one could touch is forgotten.
+#[tactic(auto, using(crate::proofs::Granted::correct_granted, crate::proofs::Granted::record_in))]
 pub fn correct(job: Job, t: &mut [u32], number: u32, piece: Piece) -> Result<Job, Refusal>
     ensures { CorrectPromise job t.old number piece (changed_from job result) t.new }
 {
-    refusal::of_correct(job, t, number, piece)?;
+    refusal::of_correct(&job, t, number, piece)?;
     empty_size(&job, t, piece_of(&job, number));
     empty_size(&job, t, piece);
     Ok(job.with_corrected(number, piece))
 }
 
 // Takes piece `number` out; each one after it gets a number one less.
+#[tactic(auto, using(crate::proofs::Granted::remove_granted, crate::proofs::Granted::record_in))]
 pub fn remove(job: Job, t: &mut [u32], number: u32) -> Result<Job, Refusal>
     ensures { RemovePromise job t.old number (changed_from job result) t.new }
 {
-    refusal::of_remove(job, t, number)?;
+    refusal::of_remove(&job, t, number)?;
     empty_size(&job, t, piece_of(&job, number));
     Ok(job.with_removed(number))
 }

@@ -1,6 +1,20 @@
 // What each call on a table refuses, row by row.
 // Each goal is about what a list of refusals computes.
-#![tactic(auto, unfolding(crate::specs::Inner::job_refused, crate::specs::Inner::job_refusals, crate::specs::Inner::job_tests, crate::specs::Inner::open_refused, crate::specs::Refusals::open_refusals, crate::specs::Inner::open_tests, crate::specs::Inner::add_refused, crate::specs::Refusals::add_refusals, crate::specs::Inner::add_tests, crate::specs::Inner::correct_refused, crate::specs::Refusals::correct_refusals, crate::specs::Inner::correct_tests, crate::specs::Inner::remove_refused, crate::specs::Refusals::remove_refusals, crate::specs::Inner::remove_tests, crate::specs::Inner::ask_refused, crate::specs::Refusals::ask_refusals, crate::specs::Inner::ask_tests, laws::specs::Inner::number_given,))]
+#![tactic(auto, unfolding(
+// a job
+crate::specs::Inner::job_refused, crate::specs::Inner::job_refusals, crate::specs::Inner::job_tests,
+// open
+crate::specs::Inner::open_refused, crate::specs::Refusals::open_refusals, crate::specs::Inner::open_tests,
+// add
+crate::specs::Inner::add_refused, crate::specs::Refusals::add_refusals, crate::specs::Inner::add_tests,
+// correct
+crate::specs::Inner::correct_refused, crate::specs::Refusals::correct_refusals, crate::specs::Inner::correct_tests,
+// remove
+crate::specs::Inner::remove_refused, crate::specs::Refusals::remove_refusals, crate::specs::Inner::remove_tests,
+// ask
+crate::specs::Inner::ask_refused, crate::specs::Refusals::ask_refusals, crate::specs::Inner::ask_tests,
+// what a list gives
+laws::specs::Inner::number_given))]
 
 ghost use Rattle.std.specs.Prelude.{◌≡◌, ◌&&◌};
 ghost use Rattle.job.specs.Inner.{within};
@@ -17,8 +31,8 @@ pub fn inside(x: u32, y: u32, a: u16, b: u16) -> bool
     (1..=u32::from(a)).contains(&x) && (1..=u32::from(b)).contains(&y)
 }
 
-pub fn of_job(job: Job, t: &[u32]) -> Result<(), Refusal>
-    ensures { refused result ≡ job_refused job t.now }
+pub fn of_job(job: &Job, t: &[u32]) -> Result<(), Refusal>
+    ensures { refused result ≡ job_refused job.now t.now }
 {
     if !job.in_range() {
         return Err(Refusal::BadJob);
@@ -41,8 +55,8 @@ pub(crate) fn of_open(a: u32, b: u32, t: &[u32]) -> Result<(), Refusal>
     Ok(())
 }
 
-pub(crate) fn of_add(job: Job, t: &[u32], piece: Piece) -> Result<(), Refusal>
-    ensures { refused result ≡ add_refused job t.now piece }
+pub(crate) fn of_add(job: &Job, t: &[u32], piece: Piece) -> Result<(), Refusal>
+    ensures { refused result ≡ add_refused job.now t.now piece }
 {
     of_job(job, t)?;
     if !piece.in_range() {
@@ -54,8 +68,8 @@ pub(crate) fn of_add(job: Job, t: &[u32], piece: Piece) -> Result<(), Refusal>
     Ok(())
 }
 
-pub(crate) fn of_remove(job: Job, t: &[u32], number: u32) -> Result<(), Refusal>
-    ensures { refused result ≡ remove_refused job t.now number }
+pub(crate) fn of_remove(job: &Job, t: &[u32], number: u32) -> Result<(), Refusal>
+    ensures { refused result ≡ remove_refused job.now t.now number }
 {
     of_job(job, t)?;
     if !(1..=u32::from(job.count)).contains(&number) {
@@ -64,8 +78,8 @@ pub(crate) fn of_remove(job: Job, t: &[u32], number: u32) -> Result<(), Refusal>
     Ok(())
 }
 
-pub(crate) fn of_correct(job: Job, t: &[u32], number: u32, piece: Piece) -> Result<(), Refusal>
-    ensures { refused result ≡ correct_refused job t.now number piece }
+pub(crate) fn of_correct(job: &Job, t: &[u32], number: u32, piece: Piece) -> Result<(), Refusal>
+    ensures { refused result ≡ correct_refused job.now t.now number piece }
 {
     of_remove(job, t, number)?;
     if !piece.in_range() {
@@ -74,8 +88,8 @@ pub(crate) fn of_correct(job: Job, t: &[u32], number: u32, piece: Piece) -> Resu
     Ok(())
 }
 
-pub(crate) fn of_ask(job: Job, t: &[u32], x: u32, y: u32) -> Result<(), Refusal>
-    ensures { refused result ≡ ask_refused job t.now x y }
+pub(crate) fn of_ask(job: &Job, t: &[u32], x: u32, y: u32) -> Result<(), Refusal>
+    ensures { refused result ≡ ask_refused job.now t.now x y }
 {
     of_job(job, t)?;
     if !inside(x, y, job.width, job.height) {

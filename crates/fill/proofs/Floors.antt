@@ -19,7 +19,7 @@ use Rattle.cells.specs.Inner.{Holds, fits}
 use Rattle.cells.proofs.Emptied.{fits_says}
 use Rattle.cells.proofs.Places.{holds_lower}
 use Rattle.fill.specs.Inner.{fitting_value, line_at, line_value, value_in, Raises, Columns, LinesUp, floor_by}
-use Rattle.fill.proofs.Steps.{lines_up_to, lines_none, lines_end, fitting_none, fitting_more}
+use Rattle.fill.proofs.Steps.{lines_up_to, lines_none, lines_more, lines_end, fitting_none, fitting_more}
 
 -- The columns from..u − 1 have been raised to g.
 pub record RaisedTo (from u : ℕ) (g : ℕ → ℕ) (f f' : List ℕ) : Type 0 where
@@ -83,7 +83,7 @@ module _ (from x w p q v : ℕ) (f : List ℕ) where
   pub piece_low : w < q → Raises from x (λ u. value_in p q v u w) f f
   piece_low h = record { at = λ u. spared u (λ r m. omega (arith, m.high)) }
 
-  pub piece_high : {f' : List ℕ} {start value : ℕ} → start ≡ max p from → value ≡ v → q ≤ w → Raises start x (λ u. value) f f'
+  pub piece_high : {f' : List ℕ} {start value : ℕ} → start ≡ max from p → value ≡ v → q ≤ w → Raises start x (λ u. value) f f'
       → Raises from x (λ u. value_in p q v u w) f f'
   unfolding range
   piece_high {f'} {start} {value} e g h r =
@@ -123,22 +123,21 @@ module _ (in_q : ℕ → Bool) (cell : ℕ → ℕ → ℕ) (from x w : ℕ) (f 
   unfolding lined
   lined_none = record { at = λ u a b. omega (arith, lines_none in_q (λ k. cell u k) w) }
 
-  step : (d u : ℕ) {b s : Bool} → b ≡ in_q (d + 1) → b ≡ s
-      → lines_up_to in_q (λ k. cell u k) w (d + 1) ≡ max (lines_up_to in_q (λ k. cell u k) w d) (cond s (cell u (d + 1) + cell u (rest w (d + 1))) 0)
-  unfolding lines_up_to line_at
-  step d u e t =
-      best_below_more (λ i. line_at in_q (λ k. cell u k) w (suc i)) d
-      ∙ ap (max _) (ap (line_at in_q (λ k. cell u k) w) (sym (add-one d)) ∙ ap (λ (c : Bool). cond c (cell u (d + 1) + cell u (rest w (d + 1))) 0) (sym e ∙ t))
+  step : (k u : ℕ) {d : ℕ} {b s : Bool} → d ≡ k + 1 → b ≡ in_q d → b ≡ s
+      → lines_up_to in_q (λ k. cell u k) w d ≡ max (lines_up_to in_q (λ k. cell u k) w k) (cond s (cell u d + cell u (rest w d)) 0)
+  unfolding line_at
+  step k u {d} next e t = sym (lines_more in_q (λ k. cell u k) w k next refl refl refl)
+      ∙ ap (max _) (ap (λ (c : Bool). cond c (cell u d + cell u (rest w d)) 0) (sym e ∙ t))
 
-  pub lined_marked : (d : ℕ) {f' f'' : List ℕ} {b : Bool} → Columns from x (lined in_q cell w f d) f' → b ≡ in_q (d + 1) → b ≡ true
-      → Raises from x (λ u. cell u (d + 1) + cell u (rest w (d + 1))) f' f'' → Columns from x (lined in_q cell w f (d + 1)) f''
+  pub lined_marked : (k : ℕ) {d : ℕ} {f' f'' : List ℕ} {b : Bool} → d ≡ k + 1 → Columns from x (lined in_q cell w f k) f' → b ≡ in_q d → b ≡ true
+      → Raises from x (λ u. cell u d + cell u (rest w d)) f' f'' → Columns from x (lined in_q cell w f d) f''
   unfolding lined
-  lined_marked d {f'} {f''} h e t r = record { at = λ u a b. omega (arith, raised_in from x _ f' f'' r u a b, h.at u a b, step d u e t) }
+  lined_marked k {d} {f'} {f''} next h e t r = record { at = λ u a b. omega (arith, raised_in from x _ f' f'' r u a b, h.at u a b, step k u next e t) }
 
-  pub lined_unmarked : (d : ℕ) {f' : List ℕ} {b : Bool} → Columns from x (lined in_q cell w f d) f' → b ≡ in_q (d + 1) → b ≡ false
-      → Columns from x (lined in_q cell w f (d + 1)) f'
+  pub lined_unmarked : (k : ℕ) {d : ℕ} {f' : List ℕ} {b : Bool} → d ≡ k + 1 → Columns from x (lined in_q cell w f k) f' → b ≡ in_q d → b ≡ false
+      → Columns from x (lined in_q cell w f d) f'
   unfolding lined
-  lined_unmarked d {f'} h e t = record { at = λ u a b. omega (arith, h.at u a b, step d u e t) }
+  lined_unmarked k {d} {f'} next h e t = record { at = λ u a b. omega (arith, h.at u a b, step k u next e t) }
 
   pub lined_end : (d : ℕ) {f' : List ℕ} → Columns from x (lined in_q cell w f d) f' → d ≡ w / 2
       → Columns from x (λ u. max (get_or f u 0) (line_value in_q (λ k. cell u k) w)) f'

@@ -107,18 +107,18 @@ module _ (rows : Rows) (a b : ℕ) (t : List ℕ) (room : a * b ≤ length t) wh
           by true s = let f = s.means refl in sym (final_only rows (cell_of a first) (final rows (cell_of a t)) m n own u w (omega arith))
           by false s = filled_outside rows a b x y t room (omega arith) (omega arith) u w i (λ f. says_false s refl (omega arith))
 
--- One more cell of a row, where the rows below are full.
-module _ (rows : Rows) (a b : ℕ) (t : List ℕ) (room : a * b ≤ length t) (i w : ℕ) (wide : i < a) (least : 1 ≤ w) (high : w ≤ b)
-    (full : Full a t (i + 1) (w - 1)) where
+-- One more cell of a row, in column x, where the rows below are full.
+module _ (rows : Rows) (a b : ℕ) (t : List ℕ) (room : a * b ≤ length t) (i x w : ℕ) (next : x ≡ i + 1) (wide : i < a) (least : 1 ≤ w) (high : w ≤ b)
+    (full : Full a t x (w - 1)) where
   abbrev pub before : List ℕ
   before = filled rows a b i w t
 
   -- What cell (u, v) is to hold.
   goal : ℕ → ℕ → ℕ
-  goal u v = cond (fits u v (i + 1) w) (final rows (cell_of a t) u v) (cell_of a t u v)
+  goal u v = cond (fits u v x w) (final rows (cell_of a t) u v) (cell_of a t u v)
 
   -- Every other cell of the box holds its final number already.
-  pub early : (u v : ℕ) → Inside u v (i + 1) w → ((u ≡ i + 1) × (v ≡ w) → ⊥) → cell_of a before u v ≡ final rows (cell_of a t) u v
+  pub early : (u v : ℕ) → Inside u v x w → ((u ≡ x) × (v ≡ w) → ⊥) → cell_of a before u v ≡ final rows (cell_of a t) u v
   early u v j other = by (le_or_lt u i)
     where
       by : (u ≤ i) ⊎ (i < u) → cell_of a before u v ≡ final rows (cell_of a t) u v
@@ -128,56 +128,56 @@ module _ (rows : Rows) (a b : ℕ) (t : List ℕ) (room : a * b ≤ length t) (i
           filled_outside rows a b i w t room (omega arith) high u v (omega arith) (λ f. omega (arith, f.wide))
           ∙ sym (final_kept rows (cell_of a t) u v (full u v (omega arith)))
 
-  elsewhere : (u v : ℕ) → Inside u v a b → ((u ≡ i + 1) × (v ≡ w) → ⊥) → cell_of a before u v ≡ goal u v
+  elsewhere : (u v : ℕ) → Inside u v a b → ((u ≡ x) × (v ≡ w) → ⊥) → cell_of a before u v ≡ goal u v
   unfolding goal
-  elsewhere u v j other = by _ (fits_says u v (i + 1) w)
+  elsewhere u v j other = by _ (fits_says u v x w)
     where
-      by : (s : Bool) → Says s (Fits u v (i + 1) w) → cell_of a before u v ≡ cond s (final rows (cell_of a t) u v) (cell_of a t u v)
+      by : (s : Bool) → Says s (Fits u v x w) → cell_of a before u v ≡ cond s (final rows (cell_of a t) u v) (cell_of a t u v)
       by true s = let f = s.means refl in early u v (omega arith) other
       by false s = filled_outside rows a b i w t room (omega arith) high u v j (λ f. says_false s refl (omega arith))
 
   -- The new cell still holds what it held.
-  pub old_cell : cell_of a before (i + 1) w ≡ cell_of a t (i + 1) w
-  old_cell = filled_outside rows a b i w t room (omega arith) high (i + 1) w (omega arith) (λ f. omega (arith, f.wide))
+  pub old_cell : cell_of a before x w ≡ cell_of a t x w
+  old_cell = filled_outside rows a b i w t room (omega arith) high x w (omega arith) (λ f. omega (arith, f.wide))
 
-  goal_here : (v : ℕ) → v ≡ final rows (cell_of a t) (i + 1) w → v ≡ goal (i + 1) w
+  goal_here : (v : ℕ) → v ≡ final rows (cell_of a t) x w → v ≡ goal x w
   unfolding goal
   goal_here v e =
-      e ∙ ap (λ (s : Bool). cond s (final rows (cell_of a t) (i + 1) w) (cell_of a t (i + 1) w)) (sym ((fits_says (i + 1) w (i + 1) w).found (omega arith)))
+      e ∙ ap (λ (s : Bool). cond s (final rows (cell_of a t) x w) (cell_of a t x w)) (sym ((fits_says x w x w).found (omega arith)))
 
-  worth_here : cell_of a t (i + 1) w ≡ empty → worth_of rows (cell_of a before) (i + 1) w ≡ final rows (cell_of a t) (i + 1) w
+  worth_here : cell_of a t x w ≡ empty → worth_of rows (cell_of a before) x w ≡ final rows (cell_of a t) x w
   worth_here e =
-      worth_of_same rows _ _ (i + 1) w (omega arith) least (λ u v s. early u v s.inside (λ h. omega (arith, s.less, h.0, h.1)))
-      ∙ sym (final_empty rows (cell_of a t) (i + 1) w e)
+      worth_of_same rows _ _ x w (omega arith) least (λ u v s. early u v s.inside (λ h. omega (arith, s.less, h.0, h.1)))
+      ∙ sym (final_empty rows (cell_of a t) x w e)
 
   -- A row that agrees with `before` but for the new cell, which holds its final number, is the box with one cell more.
-  grown : (t' : List ℕ) → length t' ≡ length before → cell_of a t' (i + 1) w ≡ final rows (cell_of a t) (i + 1) w
-      → ((u v : ℕ) → Inside u v a b → ((u ≡ i + 1) × (v ≡ w) → ⊥) → cell_of a t' u v ≡ cell_of a before u v)
-      → ((k : ℕ) → a * b ≤ k → get_or t' k empty ≡ get_or before k empty) → t' ≡ filled rows a b (i + 1) w t
+  grown : (t' : List ℕ) → length t' ≡ length before → cell_of a t' x w ≡ final rows (cell_of a t) x w
+      → ((u v : ℕ) → Inside u v a b → ((u ≡ x) × (v ≡ w) → ⊥) → cell_of a t' u v ≡ cell_of a before u v)
+      → ((k : ℕ) → a * b ≤ k → get_or t' k empty ≡ get_or before k empty) → t' ≡ filled rows a b x w t
   unfolding filled goal
   grown t' long here others beyond =
       is_redrawn a b goal t t' (long ∙ redrawn-length a b _ t)
-      (λ u v j. at u v j (ℕ_discrete u (i + 1)) (ℕ_discrete v w))
+      (λ u v j. at u v j (ℕ_discrete u x) (ℕ_discrete v w))
       (λ k h. beyond k h ∙ redrawn_beyond a b _ t k h)
     where
-      at : (u v : ℕ) → Inside u v a b → Dec (u ≡ i + 1) → Dec (v ≡ w) → cell_of a t' u v ≡ goal u v
+      at : (u v : ℕ) → Inside u v a b → Dec (u ≡ x) → Dec (v ≡ w) → cell_of a t' u v ≡ goal u v
       at u v j (yes e) (yes f) =
-          subst (λ (m : ℕ). cell_of a t' m v ≡ goal m v) (sym e) (subst (λ (n : ℕ). cell_of a t' (i + 1) n ≡ goal (i + 1) n) (sym f) (goal_here _ here))
-      at u v j (yes e) (no f) = let other : (u ≡ i + 1) × (v ≡ w) → ⊥ = λ h. f h.1 in others u v j other ∙ elsewhere u v j other
-      at u v j (no e) d = let other : (u ≡ i + 1) × (v ≡ w) → ⊥ = λ h. e h.0 in others u v j other ∙ elsewhere u v j other
+          subst (λ (m : ℕ). cell_of a t' m v ≡ goal m v) (sym e) (subst (λ (n : ℕ). cell_of a t' x n ≡ goal x n) (sym f) (goal_here _ here))
+      at u v j (yes e) (no f) = let other : (u ≡ x) × (v ≡ w) → ⊥ = λ h. f h.1 in others u v j other ∙ elsewhere u v j other
+      at u v j (no e) d = let other : (u ≡ x) × (v ≡ w) → ⊥ = λ h. e h.0 in others u v j other ∙ elsewhere u v j other
 
-  pub filled_cell : cell_filled rows a (i + 1) w (filled rows a b i w t) ≡ filled rows a b (i + 1) w t
+  pub filled_cell : cell_filled rows a x w (filled rows a b i w t) ≡ filled rows a b x w t
   unfolding cell_filled
-  filled_cell = by _ (is_empty_says a before (i + 1) w)
+  filled_cell = by _ (is_empty_says a before x w)
     where
-      here : Inside (i + 1) w a b
+      here : Inside x w a b
       here = omega arith
 
       room' : a * b ≤ length before
       room' = omega (arith, filled-length rows a b i w t)
 
-      by : (s : Bool) → Says s (cell_of a before (i + 1) w ≡ empty)
-          → cond s (set before (place a (i + 1) w) (worth_of rows (cell_of a before) (i + 1) w)) before ≡ filled rows a b (i + 1) w t
+      by : (s : Bool) → Says s (cell_of a before x w ≡ empty)
+          → cond s (set before (place a x w) (worth_of rows (cell_of a before) x w)) before ≡ filled rows a b x w t
       by true s =
           grown _ (length-set before _ _)
           (store_same before _ room' here ∙ worth_here (sym old_cell ∙ s.means refl))
@@ -185,6 +185,6 @@ module _ (rows : Rows) (a b : ℕ) (t : List ℕ) (room : a * b ≤ length t) (i
           (λ k h. store_beyond before _ here k h)
       by false s =
           grown before refl
-          (old_cell ∙ sym (final_kept rows (cell_of a t) (i + 1) w (λ e. says_false s refl (old_cell ∙ e))))
+          (old_cell ∙ sym (final_kept rows (cell_of a t) x w (λ e. says_false s refl (old_cell ∙ e))))
           (λ u v j other. refl)
           (λ k h. refl)

@@ -5,9 +5,12 @@ use mathlib.Core.Path.{◌≡◌, sym, ap, ap₂, ◌∙◌, subst}
 use mathlib.Core.List.{List}
 use mathlib.Core.Logic.{⊎_elim}
 use native.Mathlib.Omega.{arith}
+use lib.Dec.{eqb}
 use lib.ListN.{set}
+use Rattle.std.proofs.Common.{Option, Some, None}
+use Rattle.std.specs.Option.{MatchOption, unwrap_or}
 use Rattle.laws.proofs.Order.{le_or_lt, last_or_below}
-use Rattle.laws.proofs.Says.{says_no, says_false}
+use Rattle.laws.proofs.Says.{says_eq, says_no, says_false}
 use Rattle.cutting.specs.Limits.{side_max}
 use Rattle.cutting.specs.Piece.{Inside}
 use Rattle.cutting.proofs.Bound.{most, most_parts}
@@ -70,17 +73,17 @@ raised_filled rows a u w t {floor} e =
     let worth : max floor (line_value rows.in_p (λ c. cell_of a t c w) u) ≡ worth_of rows (cell_of a t) u w = omega (arith, e) in
     ap (λ (v : ℕ). cond (is_empty a t u w) (set t (place a u w) v) t) worth
 
--- Along a row: the first i cells of row w are done.
-module _ (rows : Rows) (a b x w : ℕ) (t : List ℕ) (ready : RowReady rows a b x w t) (i : ℕ) (more : i < x) where
-  full : Full a t (i + 1) (w - 1)
-  full u v j = ready.full u v (omega arith)
+-- Along a row: the first i cells of row w are done, and the next column is u.
+module _ (rows : Rows) (a b x w : ℕ) (t : List ℕ) (ready : RowReady rows a b x w t) (i u : ℕ) (next : u ≡ i + 1) (more : i < x) where
+  full : Full a t u (w - 1)
+  full m n j = ready.full m n (omega arith)
 
   in_width : i < a
   in_width = omega (arith, ready.inside.width_most)
 
-  pub row_around : {now : List ℕ} → now ≡ filled rows a b i w t → Around a now (i + 1) w
+  pub row_around : {now : List ℕ} → now ≡ filled rows a b i w t → Around a now u w
   row_around e =
-      subst (λ (l : List ℕ). Around a l (i + 1) w) (sym e)
+      subst (λ (l : List ℕ). Around a l u w) (sym e)
       (record {
         holds = omega (arith, h, filled-length rows a b i w t);
         least = omega arith;
@@ -88,7 +91,7 @@ module _ (rows : Rows) (a b x w : ℕ) (t : List ℕ) (ready : RowReady rows a b
         below = λ m n s.
             omega (
               arith,
-              early rows a b t ready.holds.room i w in_width h.height_least ready.inside.height_most full m n s.inside
+              early rows a b t ready.holds.room i u w next in_width h.height_least ready.inside.height_most full m n s.inside
                   (λ k. omega (arith, s.less, k)),
               final_most rows (cell_of a t) x w ready.valued ready.bounded m n (omega (arith, s.inside)),
             );
@@ -98,55 +101,49 @@ module _ (rows : Rows) (a b x w : ℕ) (t : List ℕ) (ready : RowReady rows a b
       h = holds_lower w ready.holds ready.inside.height_least ready.inside.height_most
 
   -- The floor of the next cell is as it was before the row.
-  floor_still : floor_by rows.width rows.height rows.value rows.count rows.in_q (cell_of a (filled rows a b i w t)) w (i + 1)
-      ≡ floor_by rows.width rows.height rows.value rows.count rows.in_q (cell_of a t) w (i + 1)
+  floor_still : floor_by rows.width rows.height rows.value rows.count rows.in_q (cell_of a (filled rows a b i w t)) w u
+      ≡ floor_by rows.width rows.height rows.value rows.count rows.in_q (cell_of a t) w u
   unfolding floor_by
   floor_still =
       ap (max _) (line_value_same rows.in_q _ _ w
-      (λ d p h. filled_outside rows a b i w t ready.holds.room (omega (arith, in_width)) ready.inside.height_most (i + 1) d
+      (λ d p h. filled_outside rows a b i w t ready.holds.room (omega (arith, in_width)) ready.inside.height_most u d
       (omega (arith, ready.inside)) (λ f. omega (arith, f.wide))))
 
-  pub row_more : {now next : List ℕ} {floor : ℕ} → now ≡ filled rows a b i w t
-      → floor ≡ floor_by rows.width rows.height rows.value rows.count rows.in_q (cell_of a t) w (i + 1)
-      → next ≡ cell_raised floor rows.in_p a (i + 1) w now → next ≡ filled rows a b (i + 1) w t
-  row_more {now} {next} {floor} e g f =
+  pub row_more : {now later : List ℕ} {floor : ℕ} → now ≡ filled rows a b i w t
+      → floor ≡ floor_by rows.width rows.height rows.value rows.count rows.in_q (cell_of a t) w u
+      → later ≡ cell_raised floor rows.in_p a u w now → later ≡ filled rows a b u w t
+  row_more {now} {later} {floor} e g f =
       f
-      ∙ (ap (cell_raised floor rows.in_p a (i + 1) w) e
-      ∙ (raised_filled rows a (i + 1) w (filled rows a b i w t) (g ∙ sym floor_still)
-      ∙ filled_cell rows a b t ready.holds.room i w in_width ready.inside.height_least ready.inside.height_most full))
+      ∙ (ap (cell_raised floor rows.in_p a u w) e
+      ∙ (raised_filled rows a u w (filled rows a b i w t) (g ∙ sym floor_still)
+      ∙ filled_cell rows a b t ready.holds.room i u w next in_width ready.inside.height_least ready.inside.height_most full))
 
-  pub row_count : {now : List ℕ} {m r : ℕ} → now ≡ filled rows a b i w t → m ≡ count_in_row i w (is_empty a t) → r ≡ counted (is_empty a now (i + 1) w)
-      → m + r ≡ count_in_row (i + 1) w (is_empty a t)
+  pub row_count : {now : List ℕ} {m r : ℕ} → now ≡ filled rows a b i w t → m ≡ count_in_row i w (is_empty a t) → r ≡ counted (is_empty a now u w)
+      → m + r ≡ count_in_row u w (is_empty a t)
   unfolding is_empty
   row_count e f g =
-      let same = old_cell rows a b t ready.holds.room i w in_width ready.inside.height_least ready.inside.height_most full in
-      ap₂ ◌+◌ f (g ∙ (ap (λ (l : List ℕ). counted (is_empty a l (i + 1) w)) e ∙ ap (λ (v : ℕ). counted (lib.Dec.eqb v empty)) same))
-      ∙ sym (count_in_row_more i w (is_empty a t))
+      let same = old_cell rows a b t ready.holds.room i u w next in_width ready.inside.height_least ready.inside.height_most full in
+      ap₂ ◌+◌ f (g ∙ (ap (λ (l : List ℕ). counted (is_empty a l u w)) e ∙ ap (λ (v : ℕ). counted (lib.Dec.eqb v empty)) same))
+      ∙ sym (count_in_row_more i w (is_empty a t) next)
 
-  pub row_within : {now : List ℕ} {m r : ℕ} → now ≡ filled rows a b i w t → m ≡ count_in_row i w (is_empty a t) → r ≡ counted (is_empty a now (i + 1) w)
-      → m + r ≤ i + 1
-  row_within e f g = subst (λ (k : ℕ). k ≤ i + 1) (sym (row_count e f g)) (count_in_row_bound (i + 1) w (is_empty a t))
+  pub row_within : {now : List ℕ} {m r : ℕ} → now ≡ filled rows a b i w t → m ≡ count_in_row i w (is_empty a t) → r ≡ counted (is_empty a now u w)
+      → m + r ≤ u
+  row_within e f g = subst (λ (k : ℕ). k ≤ u) (sym (row_count e f g)) (count_in_row_bound u w (is_empty a t))
 
 -- A row that is ready can be looked through for an empty cell, and for the first one.
 pub row_held : {rows : Rows} {a b x w : ℕ} {t : List ℕ} → RowReady rows a b x w t → Holds a w t × (x ≤ a)
 row_held {w = w} ready = (holds_lower w ready.holds ready.inside.height_least ready.inside.height_most, ready.inside.width_most)
 
-pub before_none : (a : ℕ) (t : List ℕ) (x w : ℕ) → FullBefore a t x w (0 + 1)
-before_none a t x w = record { least = omega arith; most = omega arith; full = λ u p h. absurd (omega arith) }
+-- What a search for the first empty cell of row w finds, from column 1 on: no test before it said yes.
+abbrev pub Found : ℕ → List ℕ → ℕ → ℕ → Option ℕ → Type 0
+Found a t x w found =
+    MatchOption found ((k : ℕ) → 1 ≤ k → k < x + 1 → eqb (cell_of a t k w) empty ≡ false)
+    (λ u. (1 ≤ u) × (u < x + 1) × Unit {0} × ((k : ℕ) → 1 ≤ k → k < u → eqb (cell_of a t k w) empty ≡ false))
 
-pub before_more : (a : ℕ) (t : List ℕ) (x w i : ℕ) {v : ℕ} → i < x → FullBefore a t x w (i + 1) → v ≡ cell_of a t (i + 1) w → (v ≡ empty → ⊥)
-    → FullBefore a t x w (i + 1 + 1)
-before_more a t x w i l f e h =
-    record {
-      least = omega arith;
-      most = omega arith;
-      full = λ u p b.
-          ⊎_elim (λ q. subst (λ (m : ℕ). cell_of a t m w ≡ empty → ⊥) (sym q) (λ z. h (e ∙ z))) (λ k. f.full u p k)
-          (last_or_below {k = u} {n = i + 1} (omega arith));
-    }
-
-pub row_cells : (a : ℕ) (t : List ℕ) (x w i : ℕ) → Holds a w t → x ≤ a → i < x → Holds a w t × Inside (i + 1) w a w
-row_cells a t x w i h k l = (h, omega (arith, h.height_least))
+pub found_before : (a : ℕ) (t : List ℕ) (x w : ℕ) (found : Option ℕ) {from : ℕ} → Found a t x w found → from ≡ unwrap_or found (x + 1) → FullBefore a t x w from
+found_before a t x w None f e = record { least = omega arith; most = omega arith; full = λ k p h. says_false (says_eq (cell_of a t k w) empty) (f k p (omega arith)) }
+found_before a t x w (Some u) f e =
+    record { least = omega arith; most = omega arith; full = λ k p h. says_false (says_eq (cell_of a t k w) empty) (f.3 k p (omega arith)) }
 
 -- A row can be entered at the column before which it is full.
 module _ (rows : Rows) (a b x w from : ℕ) (t : List ℕ) (ready : RowReady rows a b x w t) (start : FullBefore a t x w from) where
@@ -203,8 +200,8 @@ box_full rows a b x y t full = (
   filled_full rows a b x y t full,
 )
 
--- Up the rows: the first j rows of the box are done.
-module _ (rows : Rows) (a b x y : ℕ) (t : List ℕ) (ready : BoxReady rows a b x y t) (j : ℕ) (more : j < y) where
+-- Up the rows: the first j rows of the box are done, and the next row is w.
+module _ (rows : Rows) (a b x y : ℕ) (t : List ℕ) (ready : BoxReady rows a b x y t) (j w : ℕ) (next : w ≡ j + 1) (more : j < y) where
   wide : x ≤ a
   wide = ready.inside.width_most
 
@@ -219,9 +216,9 @@ module _ (rows : Rows) (a b x y : ℕ) (t : List ℕ) (ready : BoxReady rows a b
       subst (λ (k : ℕ). k ≤ most u v) (sym (filled_inside rows a b x j t ready.holds.room wide high u v i))
       (final_most rows (cell_of a t) x y ready.valued ready.bounded u v (omega arith))
 
-  pub box_row : {now : List ℕ} → now ≡ filled rows a b x j t → RowReady rows a b x (j + 1) now
+  pub box_row : {now : List ℕ} → now ≡ filled rows a b x j t → RowReady rows a b x w now
   box_row e =
-      subst (RowReady rows a b x (j + 1)) (sym e)
+      subst (RowReady rows a b x w) (sym e)
       (record {
         holds = omega (arith, h, filled-length rows a b x j t);
         inside = omega (arith, ready.inside);
@@ -235,28 +232,28 @@ module _ (rows : Rows) (a b x y : ℕ) (t : List ℕ) (ready : BoxReady rows a b
       h : Holds a b t
       h = ready.holds
 
-      row : (u v : ℕ) → Inside u v x (j + 1) → j < v → (cell_of a (filled rows a b x j t) u v ≡ empty → ⊥) → cell_of a (filled rows a b x j t) u v ≤ most u v
+      row : (u v : ℕ) → Inside u v x w → j < v → (cell_of a (filled rows a b x j t) u v ≡ empty → ⊥) → cell_of a (filled rows a b x j t) u v ≤ most u v
       row u v i g k =
           let here = outside u v (omega (arith, ready.inside)) g in
           subst (λ (m : ℕ). m ≤ most u v) (sym here) (ready.bounded u v (omega arith) (λ q. k (here ∙ q)))
 
-  pub box_more : {now next : List ℕ} → now ≡ filled rows a b x j t → next ≡ filled rows a b x (j + 1) now → next ≡ filled rows a b x (j + 1) t
+  pub box_more : {now later : List ℕ} → now ≡ filled rows a b x j t → later ≡ filled rows a b x w now → later ≡ filled rows a b x w t
   box_more e f =
       f
-      ∙ (ap (filled rows a b x (j + 1)) e
-      ∙ filled_again rows a b t ready.holds.room x j x (j + 1) (omega arith) (omega arith) wide (omega (arith, ready.inside.height_most)))
+      ∙ (ap (filled rows a b x w) e
+      ∙ filled_again rows a b t ready.holds.room x j x w (omega arith) (omega arith) wide (omega (arith, ready.inside.height_most)))
 
-  pub box_count : {now : List ℕ} {m r : ℕ} → now ≡ filled rows a b x j t → m ≡ count_in_box x j (is_empty a t) → r ≡ count_in_row x (j + 1) (is_empty a now)
-      → m + r ≡ count_in_box x (j + 1) (is_empty a t)
+  pub box_count : {now : List ℕ} {m r : ℕ} → now ≡ filled rows a b x j t → m ≡ count_in_box x j (is_empty a t) → r ≡ count_in_row x w (is_empty a now)
+      → m + r ≡ count_in_box x w (is_empty a t)
   unfolding is_empty
   box_count e f g =
-      let same : (u : ℕ) → 1 ≤ u → u ≤ x → is_empty a (filled rows a b x j t) u (j + 1) ≡ is_empty a t u (j + 1) =
-      λ u p h. ap (λ (v : ℕ). lib.Dec.eqb v empty) (outside u (j + 1) (omega (arith, ready.inside)) (omega arith)) in
-      ap₂ ◌+◌ f (g ∙ (ap (λ (l : List ℕ). count_in_row x (j + 1) (is_empty a l)) e ∙ count_in_row_same x (j + 1) _ _ same))
-      ∙ sym (count_in_box_more x j (is_empty a t))
+      let same : (u : ℕ) → 1 ≤ u → u ≤ x → is_empty a (filled rows a b x j t) u w ≡ is_empty a t u w =
+      λ u p h. ap (λ (v : ℕ). lib.Dec.eqb v empty) (outside u w (omega (arith, ready.inside)) (omega arith)) in
+      ap₂ ◌+◌ f (g ∙ (ap (λ (l : List ℕ). count_in_row x w (is_empty a l)) e ∙ count_in_row_same x w _ _ same))
+      ∙ sym (count_in_box_more x j (is_empty a t) next)
 
-  pub box_within : {now : List ℕ} {m r : ℕ} → now ≡ filled rows a b x j t → m ≡ count_in_box x j (is_empty a t) → r ≡ count_in_row x (j + 1) (is_empty a now)
+  pub box_within : {now : List ℕ} {m r : ℕ} → now ≡ filled rows a b x j t → m ≡ count_in_box x j (is_empty a t) → r ≡ count_in_row x w (is_empty a now)
       → m + r ≤ side_max * side_max
   box_within e f g =
-      let sides = area_fits {u = x} {w = j + 1} (omega (arith, wide, ready.holds)) (omega (arith, high, more, ready.inside, ready.holds)) in
-      omega (arith, count_in_box_bound x (j + 1) (is_empty a t), sides, box_count e f g)
+      let sides = area_fits {u = x} {w = w} (omega (arith, wide, ready.holds)) (omega (arith, high, more, ready.inside, ready.holds)) in
+      omega (arith, count_in_box_bound x w (is_empty a t), sides, box_count e f g)

@@ -33,10 +33,12 @@ module _ (marked : ℕ → Bool) (part : ℕ → ℕ) (x : ℕ) where
   unfolding lines_up_to
   lines_none = sym (best_below_none _)
 
-  pub lines_more : (c : ℕ) {best here next : ℕ} → best ≡ lines_up_to marked part x c → here ≡ line_at marked part x (c + 1) → next ≡ max best here
-      → next ≡ lines_up_to marked part x (c + 1)
+  pub lines_more : (k : ℕ) {c best here later : ℕ} → c ≡ k + 1 → best ≡ lines_up_to marked part x k → here ≡ line_at marked part x c → later ≡ max best here
+      → later ≡ lines_up_to marked part x c
   unfolding lines_up_to
-  lines_more c e h n = n ∙ (ap₂ max e (h ∙ ap (line_at marked part x) (add-one c)) ∙ sym (best_below_more _ _))
+  lines_more k {c} next e h n =
+      let at : c ≡ suc k = omega arith in
+      n ∙ (ap₂ max e (h ∙ ap (line_at marked part x) at) ∙ (sym (best_below_more _ _) ∙ ap (best_below (λ i. line_at marked part x (suc i))) (sym next)))
 
   pub lines_end : {c best : ℕ} → best ≡ lines_up_to marked part x c → c ≡ x / 2 → best ≡ line_value marked part x
   unfolding lines_up_to line_value

@@ -6,10 +6,8 @@ ghost use Rattle.board.specs.Inner.{entries, width_on, count_on};
 ghost use Rattle.fill.specs.Inner.{Raises, Columns, LinesUp, value_in, fitting_on, lines_on, parts_on, floor_on};
 
 use crate::look::cell;
-use crate::value::larger;
 use board::line::rest;
 use board::{Board, MARKS, count, marked, piece_height, piece_value, piece_width};
-use fields::cast::{long, wide};
 
 // A number for each column, from 1 on.
 pub type Floor = [u32; MARKS];
@@ -19,17 +17,9 @@ fn raise_to(floor: &mut [u32], from: usize, x: usize, value: u32)
     requires { (x ≤ side_max) × (side_max < length floor.old) }
     ensures { Raises from x (λ u. value) floor.old floor.new }
 {
-    let mut u = from;
-    while u <= x {
-        floor[u] = larger(floor[u], value);
-        u += 1;
+    for u in from..x + 1 {
+        floor[u] = floor[u].max(value);
     }
-}
-
-fn later(p: usize, from: usize) -> usize
-    ensures { result ≡ max p from }
-{
-    if p < from { from } else { p }
 }
 
 // Raises the floor of the columns from..=x by a piece p by q of value v, where it fits in row w.
@@ -37,25 +27,22 @@ fn raise_by_piece(floor: &mut [u32], from: usize, x: usize, w: usize, p: u16, q:
     requires { (x ≤ side_max) × (side_max < length floor.old) }
     ensures { Raises from x (λ u. value_in p q v u w) floor.old floor.new }
 {
-    if wide(q) <= w {
-        raise_to(floor, later(wide(p), from), x, long(v));
+    if usize::from(q) <= w {
+        raise_to(floor, from.max(usize::from(p)), x, u32::from(v));
     }
 }
 
 // Raises the floor of the columns from..=x by every piece.
 fn raise_by_pieces(floor: &mut [u32], board: &Board, from: usize, x: usize, w: usize)
-    requires x_le_side_max { (x ≤ side_max) × (side_max < length floor.old) × (count_on board.now ≤ entries) }
+    requires bounds { (x ≤ side_max) × (side_max < length floor.old) × (count_on board.now ≤ entries) }
     requires columns { Columns from x (λ u. 0) floor.old }
     ensures { Columns from x (λ u. fitting_on board.now u w) floor.new }
 {
-    let n = count(board);
-    let mut k: usize = 0;
-    while k < n {
+    for k in 0..count(board) {
         let p = piece_width(board, k);
         let q = piece_height(board, k);
         let v = piece_value(board, k);
         raise_by_piece(floor, from, x, w, p, q, v);
-        k += 1;
     }
 }
 
@@ -70,27 +57,22 @@ fn raise_by_line(
     d: usize,
 )
     requires lines_up { LinesUp (width_on board.now) t.now from x w }
-    requires side_max_in_bounds { (side_max < length floor.old) × (1 ≤ d) × (d < w) }
+    requires bounds { (side_max < length floor.old) × (1 ≤ d) × (d < w) }
     ensures { Raises from x (parts_on board.now t.now w d) floor.old floor.new }
 {
     let far = rest(w, d);
-    let mut u = from;
-    while u <= x {
-        floor[u] = larger(floor[u], cell(t, board, u, d) + cell(t, board, u, far));
-        u += 1;
+    for u in from..x + 1 {
+        floor[u] = floor[u].max(cell(t, board, u, d) + cell(t, board, u, far));
     }
 }
 
 // Raises the floor of the columns from..=x by every marked line up to the middle of row w.
 fn raise_by_lines(floor: &mut [u32], t: &[u32], board: &Board, from: usize, x: usize, w: usize)
     requires lines_up { LinesUp (width_on board.now) t.now from x w }
-    requires side_max_in_bounds { side_max < length floor.old }
+    requires bounds { side_max < length floor.old }
     ensures { Columns from x (λ u. max (get_or floor.old u 0) (lines_on board.now t.now w u)) floor.new }
 {
-    let half = w / 2;
-    let mut d: usize = 0;
-    while d < half {
-        d += 1;
+    for d in 1..w / 2 + 1 {
         if marked(board, true, d) {
             raise_by_line(floor, t, board, from, x, w, d);
         }
@@ -100,7 +82,7 @@ fn raise_by_lines(floor: &mut [u32], t: &[u32], board: &Board, from: usize, x: u
 // The floor of the columns from..=x of row w.
 pub fn floor_of(t: &[u32], board: &Board, from: usize, x: usize, w: usize) -> Floor
     requires lines_up { LinesUp (width_on board.now) t.now from x w }
-    requires board_bound { count_on board.now ≤ entries }
+    requires few { count_on board.now ≤ entries }
     ensures { Columns from x (floor_on board.now t.now w) result }
 {
     let mut floor: Floor = [0; MARKS];

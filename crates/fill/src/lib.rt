@@ -19,14 +19,14 @@ use look::{cell, row_has_empty, store};
 // Works cell (u, w) out where it is empty, from its floor and the lines across. Answers how many cells that were, 0 or 1.
 fn fill_cell(t: &mut [u32], board: &Board, u: usize, w: usize, floor: u32) -> u32
     requires { Around (width_on board.now) t.old u w }
-    ensures value { result ≡ counted (is_empty (width_on board.now) t.old u w) }
-    ensures t_after { t.new ≡ cell_raised floor (marked_at board.now false) (width_on board.now) u w t.old }
+    ensures worked { result ≡ counted (is_empty (width_on board.now) t.old u w) }
+    ensures after { t.new ≡ cell_raised floor (marked_at board.now false) (width_on board.now) u w t.old }
 {
     if cell(t, board, u, w) != cells::EMPTY {
         return 0;
     }
     let line = value::line_value(t, board, w, u);
-    store(t, board, u, w, value::larger(floor, line));
+    store(t, board, u, w, floor.max(line));
     1
 }
 
@@ -35,29 +35,22 @@ fn first_empty(t: &[u32], board: &Board, x: usize, w: usize) -> usize
     requires { Holds (width_on board.now) w t.now × (x ≤ width_on board.now) }
     ensures { FullBefore (width_on board.now) t.now x w result }
 {
-    let mut i: usize = 0;
-    while i < x {
-        if cell(t, board, i + 1, w) == cells::EMPTY {
-            return i + 1;
-        }
-        i += 1;
-    }
-    i + 1
+    (1..x + 1)
+        .find(|u| cell(t, board, *u, w) == cells::EMPTY)
+        .unwrap_or(x + 1)
 }
 
 // Fills row w from column `from` up to column x. Answers how many of its cells were empty.
 fn fill_columns(t: &mut [u32], board: &Board, from: usize, x: usize, w: usize) -> u32
     requires row_ready { RowReady (rows_on board.now) (width_on board.now) (height_on board.now) x w t.old }
     requires full_before { FullBefore (width_on board.now) t.old x w from × (count_on board.now ≤ entries) }
-    ensures value { result ≡ count_in_row x w (is_empty (width_on board.now) t.old) }
-    ensures t_after { t.new ≡ filled_on board.now x w t.old }
+    ensures worked { result ≡ count_in_row x w (is_empty (width_on board.now) t.old) }
+    ensures after { t.new ≡ filled_on board.now x w t.old }
 {
     let floor = floor_of(t, board, from, x, w);
-    let mut worked: u32 = 0;
-    let mut i = from - 1;
-    while i < x {
-        worked += fill_cell(t, board, i + 1, w, floor[i + 1]);
-        i += 1;
+    let mut worked = 0;
+    for u in from..x + 1 {
+        worked += fill_cell(t, board, u, w, floor[u]);
     }
     worked
 }
@@ -65,9 +58,9 @@ fn fill_columns(t: &mut [u32], board: &Board, from: usize, x: usize, w: usize) -
 // Fills row w up to column x. Answers how many of its cells were empty; where none was, nothing is worked out.
 fn fill_row(t: &mut [u32], board: &Board, x: usize, w: usize) -> u32
     requires row_ready { RowReady (rows_on board.now) (width_on board.now) (height_on board.now) x w t.old }
-    requires board_bound { count_on board.now ≤ entries }
-    ensures value { result ≡ count_in_row x w (is_empty (width_on board.now) t.old) }
-    ensures t_after { t.new ≡ filled_on board.now x w t.old }
+    requires few { count_on board.now ≤ entries }
+    ensures worked { result ≡ count_in_row x w (is_empty (width_on board.now) t.old) }
+    ensures after { t.new ≡ filled_on board.now x w t.old }
 {
     if !row_has_empty(t, board, x, w) {
         return 0;
@@ -79,15 +72,13 @@ fn fill_row(t: &mut [u32], board: &Board, x: usize, w: usize) -> u32
 // Fills the box x by y of the sheet on the board. Answers how many of its cells were empty.
 pub fn fill_box(t: &mut [u32], board: &Board, x: usize, y: usize) -> u32
     requires box_ready { BoxReady (rows_on board.now) (width_on board.now) (height_on board.now) x y t.old }
-    requires board_bound { count_on board.now ≤ entries }
-    ensures value { result ≡ count_in_box x y (is_empty (width_on board.now) t.old) }
-    ensures t_after { t.new ≡ filled_on board.now x y t.old }
+    requires few { count_on board.now ≤ entries }
+    ensures worked { result ≡ count_in_box x y (is_empty (width_on board.now) t.old) }
+    ensures after { t.new ≡ filled_on board.now x y t.old }
 {
-    let mut worked: u32 = 0;
-    let mut j: usize = 0;
-    while j < y {
-        worked += fill_row(t, board, x, j + 1);
-        j += 1;
+    let mut worked = 0;
+    for w in 1..y + 1 {
+        worked += fill_row(t, board, x, w);
     }
     worked
 }

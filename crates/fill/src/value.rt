@@ -1,5 +1,5 @@
 // The lines across a row: the most that a marked line gives.
-ghost use Rattle.std.specs.Prelude.{◌≡◌, false, ◌≤◌, ◌<◌, max};
+ghost use Rattle.std.specs.Prelude.{◌≡◌, false, ◌≤◌, ◌<◌};
 ghost use Rattle.board.specs.Inner.{width_on, marked_at};
 ghost use Rattle.fill.specs.Inner.{cell_on, line_at, line_value, RowLines};
 
@@ -7,24 +7,15 @@ use crate::look::cell;
 use board::line::rest;
 use board::{Board, marked};
 
-pub fn larger(x: u32, y: u32) -> u32
-    ensures { result ≡ max x y }
-{
-    if x < y { y } else { x }
-}
-
 // What a line at c through row w, of length x, gives: its two parts' numbers where c is marked, else 0.
 // Both are read before the mark is looked at, so that the loop has no branch.
 fn line_at(t: &[u32], board: &Board, w: usize, x: usize, c: usize) -> u32
     requires row_lines { RowLines (width_on board.now) t.now w x }
-    requires le_c { (1 ≤ c) × (c < x) }
+    requires before { (1 ≤ c) × (c < x) }
     ensures { result ≡ line_at (marked_at board.now false) (λ k. cell_on board.now t.now k w) x c }
 {
     let both = cell(t, board, c, w) + cell(t, board, rest(x, c), w);
-    if marked(board, false, c) {
-        return both;
-    }
-    0
+    if marked(board, false, c) { both } else { 0 }
 }
 
 // The most that a marked line through row w, of length x, gives, up to the middle.
@@ -32,12 +23,9 @@ pub fn line_value(t: &[u32], board: &Board, w: usize, x: usize) -> u32
     requires { RowLines (width_on board.now) t.now w x }
     ensures { result ≡ line_value (marked_at board.now false) (λ k. cell_on board.now t.now k w) x }
 {
-    let half = x / 2;
     let mut best: u32 = 0;
-    let mut c: usize = 0;
-    while c < half {
-        c += 1;
-        best = larger(best, line_at(t, board, w, x, c));
+    for c in 1..x / 2 + 1 {
+        best = best.max(line_at(t, board, w, x, c));
     }
     best
 }

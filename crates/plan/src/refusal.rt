@@ -18,7 +18,7 @@ use refusals::Refusal;
 pub fn of_box(job: Job, t: &[u32], x: u32, y: u32) -> Result<(), Refusal>
     ensures { refused result ≡ box_refused job t.now x y }
 {
-    of_job(job, t)?;
+    of_job(&job, t)?;
     if !inside(x, y, job.width, job.height) {
         return Err(Refusal::NotInside);
     }

@@ -1,12 +1,11 @@
 use mathlib.Core.Path.{◌∙◌}
-use mathlib.Core.Logic.{inr}
 use native.Mathlib.Omega.{arith}
 use Rattle.cells.proofs.Places.{holds_lower}
-use Rattle.cells.proofs.Sweep.{sweep_none, rows_more, rows_end}
+use Rattle.cells.proofs.Sweep.{rows_none, rows_more, rows_end}
 use Rattle.cells.proofs.empty_where_fits.Goals as goal
 
 pub loop-y-init : goal.loop-y-init
-loop-y-init c = (omega arith, omega arith, sweep_none _ _ _ _ _ _ _ (inr (omega arith)))
+loop-y-init c = (omega arith, omega arith, rows_none _ _ _ _ _)
 
 pub empty_row-requires : goal.empty_row-requires
 empty_row-requires c =

@@ -1,7 +1,7 @@
-use native.Mathlib.Omega.{arith}
-use borrow.Author.Rules.{rules}
+use Rattle.std.proofs.Common.{arith, rules}
+use Rattle.cutting.specs.Piece.{Inside}
 use Rattle.cells.specs.Cells.{place}
-use Rattle.cells.proofs.Places.{rows_fit}
+use Rattle.cells.proofs.Places.{rows_fit, place_below}
 use Rattle.cells.proofs.place.Goals as goal
 
 -- `cells::place` is the index of rule 4.1, and nothing overflows within 240 by 240.
@@ -13,4 +13,6 @@ overflow_add-result c = omega (arith, rows_fit c.args.a c.args.y (omega arith) (
 
 pub returns : goal.returns
 unfolding place
-returns c = search rules
+returns c =
+    let last : Inside c.args.x c.args.y c.args.a c.args.y = omega arith in
+    record { is = search rules; below = place_below last }

@@ -1,22 +1,26 @@
-use Prim.Native.Nat.{◌+◌}
-use mathlib.Core.Path.{◌≡◌, sym}
-use native.Mathlib.Omega.{arith}
+use Rattle.std.proofs.Common.{ℕ, ◌+◌, ◌*◌, ◌≡◌, sym, ap, ◌∙◌, arith}
 use Rattle.cells.proofs.Places.{area_fits}
-use Rattle.cells.proofs.Box.{any_in_row_none, column_more, row_sought}
+use Rattle.cells.proofs.Box.{any_in_row_none, column_more, row_asked}
 use Rattle.cells.proofs.row_has.Goals as goal
 
-pub loop-i-init : goal.loop-i-init
-loop-i-init c = (sym (any_in_row_none _ _), omega arith, omega arith)
+pub loop-value-init : goal.loop-value-init
+loop-value-init g c = (λ test answers. sym (any_in_row_none _ _), omega arith)
 
 pub overflow_add-most : goal.overflow_add-most
-overflow_add-most c =
-    let within = area_fits {u = c.loop-i.i + 1} {w = c.args.w} (omega (arith, c.requires)) (omega (arith, c.requires)) in
-    omega (arith, within, column_more _ c.args.w c.loop-i.invariant.1)
+overflow_add-most g c =
+    let within = area_fits {u = c.loop-value.value-index + 1} {w = c.args.w} (omega (arith, c.requires)) (omega (arith, c.requires)) in
+    let column = ap (λ (n : ℕ). c.args.w * n) c.from.ensures in
+    omega (arith, within, column, column_more _ c.args.w c.loop-value.invariant.1)
 
-pub loop-i-preserved : goal.loop-i-preserved
-loop-i-preserved c =
-    let most = column_more _ _ c.loop-i.invariant.1 in
-    (row_sought _ _ _ _ _ c.loop-i.invariant.0 c.is_sought-found.ensures c.cell.ensures most, most, omega arith)
+pub loop-value-preserved : goal.loop-value-preserved
+loop-value-preserved g c =
+    let cell = c.row-value-items.ensures.cells c.loop-value.value-index (omega arith) in
+    let most = ap (λ (n : ℕ). c.loop-value.most + c.args.w * n) c.from.ensures ∙ column_more _ c.args.w c.loop-value.invariant.1 in (
+      λ test answers. row_asked test _ _ _ _ (c.loop-value.invariant.0 test answers) (answers _ _ _ c.sought-found.ensures) cell most,
+      most,
+    )
 
 pub returns : goal.returns
-returns c = let end : c.loop-i.i ≡ c.args.x = omega arith in rw (← end) c.loop-i.invariant.0
+returns g c =
+    let end : c.loop-value.value-index ≡ c.args.x = omega arith in
+    λ test answers. rw (← end) (c.loop-value.invariant.0 test answers)

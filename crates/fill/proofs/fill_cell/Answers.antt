@@ -7,7 +7,7 @@ use Rattle.fill.proofs.fill_cell.Goals as goal
 pub returns-then-cell : goal.returns-then-cell
 returns-then-cell c =
     let both = cell_kept c.args.floor (marked_at c.args.board.now false) _ _ _ _ c.cell.ensures c.if-cell.true in
-    record { value = both.0; t_after = both.1 }
+    record { worked = both.0; after = both.1 }
 
 pub line_value-line-requires : goal.line_value-line-requires
 line_value-line-requires c = around_lines _ _ _ _ c.requires
@@ -15,5 +15,5 @@ line_value-line-requires c = around_lines _ _ _ _ c.requires
 pub returns : goal.returns
 returns c =
     let both = cell_worked c.args.floor (marked_at c.args.board.now false) _ _ _ _ _
-    c.cell.ensures c.if-cell.false c.line_value-line.ensures c.larger.ensures c.store.ensures in
-    record { value = both.0; t_after = both.1 }
+    c.cell.ensures c.if-cell.false c.line_value-line.ensures c.max.ensures c.store.ensures in
+    record { worked = both.0; after = both.1 }

@@ -9,7 +9,7 @@ row_has_empty-requires c = row_held c.requires.row_ready
 pub returns-then-not-row_has_empty : goal.returns-then-not-row_has_empty
 returns-then-not-row_has_empty c =
     let both = row_full _ _ _ _ _ _ c.requires.row_ready (sym c.row_has_empty.ensures ∙ c.if-not-row_has_empty.true) in
-    record { value = both.0; t_after = both.1 }
+    record { worked = both.0; after = both.1 }
 
 pub first_empty-from-requires : goal.first_empty-from-requires
 first_empty-from-requires c = row_held c.requires.row_ready

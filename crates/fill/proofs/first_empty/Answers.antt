@@ -1,21 +1,13 @@
-use native.Mathlib.Omega.{arith}
-use Rattle.fill.proofs.Rounds.{before_none, before_more, row_cells}
+use Rattle.std.proofs.Common.{ℕ, ◌+◌, ◌≡◌, eqb, false, rules}
+use Rattle.std.proofs.lemmas.Iterator.{first_from_Range}
+use Rattle.cells.specs.Cells.{empty, cell_of}
+use Rattle.board.specs.Inner.{width_on}
+use Rattle.fill.proofs.Rounds.{Found, found_before}
 use Rattle.fill.proofs.first_empty.Goals as goal
 
-pub loop-i-init : goal.loop-i-init
-loop-i-init c = (omega arith, before_none _ _ _ _)
-
-pub cell-requires : goal.cell-requires
-cell-requires c = record {
-  holds = c.requires.0;
-  inside = (row_cells _ _ c.args.x _ c.loop-i.i c.requires.0 c.requires.1 (omega arith)).1;
-}
-
-pub returns-then-cell : goal.returns-then-cell
-returns-then-cell c = c.loop-i.invariant.1
-
-pub loop-i-preserved : goal.loop-i-preserved
-loop-i-preserved c = (omega arith, before_more _ _ _ _ _ (omega arith) c.loop-i.invariant.1 c.cell.ensures c.if-cell.false)
-
 pub returns : goal.returns
-returns c = c.loop-i.invariant.1
+returns c =
+    let filled : ℕ → Type 0 = λ k. eqb (cell_of (width_on c.args.board.now) c.args.t.now k c.args.w) empty ≡ false in
+    let found : Found (width_on c.args.board.now) c.args.t.now c.args.x c.args.w c.find.result =
+    first_from_Range (record { start = 1; end = c.args.x + 1 }) _ _ _ (λ k. Unit {0}) filled c.find.ensures.ran (λ k q h. tt) (λ k q h. search rules) in
+    found_before _ _ _ _ _ found c.unwrap_or.ensures

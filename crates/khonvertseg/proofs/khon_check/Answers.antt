@@ -7,4 +7,4 @@ use Rattle.khonvertseg.proofs.khon_check.Goals as goal
 pub returns : goal.returns
 returns c =
     let given = given_exactly c.args.file.now (λ k. omega (arith, c.type_inv.file k)) _ in
-    record { answer = _; keeps = given.0 (sym c.check.ensures); laid = c.flat_checked.ensures }
+    record { answer = _; keeps = given.0 (sym c.check.ensures); laid = c.from.ensures }

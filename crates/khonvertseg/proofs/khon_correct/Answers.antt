@@ -3,4 +3,4 @@ use Rattle.khonvertseg.proofs.khon_correct.Goals as goal
 
 -- `khon_correct` meets its contract.
 pub returns : goal.returns
-returns c = record { answer = _; keeps = (correct_exactly _ _ _ _).0 c.correct.ensures; laid = c.flat_changed.ensures }
+returns c = record { answer = _; keeps = (correct_exactly _ _ _ _).0 c.correct.ensures; laid = c.of.ensures }

@@ -3,4 +3,4 @@ use Rattle.khonvertseg.proofs.khon_remove.Goals as goal
 
 -- `khon_remove` meets its contract.
 pub returns : goal.returns
-returns c = record { answer = _; keeps = (remove_exactly _ _ _).0 c.remove.ensures; laid = c.flat_changed.ensures }
+returns c = record { answer = _; keeps = (remove_exactly _ _ _).0 c.remove.ensures; laid = c.of.ensures }

@@ -1,5 +1,4 @@
 use mathlib.Core.Path.{refl}
-use Rattle.desk.proofs.Granted.{add_granted}
 use Rattle.desk.proofs.Answers.{change_left, change_given}
 use Rattle.desk.specs.Inner.{added_job, added_cells}
 use Rattle.desk.proofs.change.add.Goals as goal
@@ -8,17 +7,6 @@ use Rattle.desk.proofs.change.add.Goals as goal
 pub returns-in_err-of_add : goal.returns-in_err-of_add
 unfolding added_job added_cells
 returns-in_err-of_add c = change_left _ _ _ _ _ _ c.from_residual.ensures.1 c.in_err-of_add.ensures
-
-pub empty_size-requires : goal.empty_size-requires
-empty_size-requires c =
-    let g = add_granted _ _ _ c.in_ok-of_add.ensures refl in
-    record {
-      usable = g.usable;
-      le_width = (g.range.width_least, g.range.height_least);
-    }
-
-pub with_added-requires : goal.with_added-requires
-with_added-requires c = (add_granted _ _ _ c.in_ok-of_add.ensures refl).space
 
 pub returns : goal.returns
 unfolding added_job added_cells

@@ -1,5 +1,4 @@
 use mathlib.Core.Path.{refl, ap, ◌∙◌}
-use Rattle.desk.proofs.Granted.{remove_granted, record_in}
 use Rattle.desk.proofs.Answers.{change_left, change_given}
 use Rattle.desk.specs.Inner.{emptied_size, removed_job, removed_cells}
 use Rattle.desk.proofs.change.remove.Goals as goal
@@ -8,31 +7,6 @@ use Rattle.desk.proofs.change.remove.Goals as goal
 pub returns-in_err-of_remove : goal.returns-in_err-of_remove
 unfolding removed_job removed_cells
 returns-in_err-of_remove c = change_left _ _ _ _ _ _ c.from_residual.ensures.1 c.in_err-of_remove.ensures
-
-pub piece_of-requires : goal.piece_of-requires
-piece_of-requires c =
-    let g = remove_granted _ _ _ c.in_ok-of_remove.ensures refl in
-    record {
-      count_le_pieces_max = g.usable.range.count_most;
-      number = g.number;
-    }
-
-pub empty_size-requires : goal.empty_size-requires
-empty_size-requires c =
-    let g = remove_granted _ _ _ c.in_ok-of_remove.ensures refl in
-    let old = record_in _ _ _ g.usable g.number c.piece_of.ensures in
-    record {
-      usable = g.usable;
-      le_width = (old.width_least, old.height_least);
-    }
-
-pub with_removed-requires : goal.with_removed-requires
-with_removed-requires c =
-    let g = remove_granted _ _ _ c.in_ok-of_remove.ensures refl in
-    record {
-      count_le_pieces_max = g.usable.range.count_most;
-      le_number = (g.number.least, g.number.most);
-    }
 
 pub returns : goal.returns
 unfolding removed_job removed_cells

@@ -1,5 +1,4 @@
 use mathlib.Core.Path.{refl}
-use Rattle.desk.proofs.Granted.{ask_granted, cell_there}
 use Rattle.desk.proofs.Answers.{asked_left, asked_given, read_at}
 use Rattle.desk.specs.Inner.{asked, asked_cells}
 use Rattle.desk.proofs.question.ask.Goals as goal
@@ -8,21 +7,6 @@ use Rattle.desk.proofs.question.ask.Goals as goal
 pub returns-in_err-of_ask : goal.returns-in_err-of_ask
 unfolding asked asked_cells
 returns-in_err-of_ask c = asked_left _ _ _ _ _ _ c.from_residual.ensures.1 c.in_err-of_ask.ensures
-
-pub fill_for-worked-requires : goal.fill_for-worked-requires
-fill_for-worked-requires c =
-    let g = ask_granted _ _ _ _ c.in_ok-of_ask.ensures refl in
-    record {
-      usable = g.usable;
-      inside = g.inside;
-      bounded = g.bounded;
-    }
-
-pub cell-value-requires : goal.cell-value-requires
-cell-value-requires c =
-    let granted = ask_granted _ _ _ _ c.in_ok-of_ask.ensures refl in
-    let both = cell_there _ _ _ _ granted c.fill_for-worked.ensures.t_after c.from.ensures in
-    record { holds = both.0; inside = both.1 }
 
 pub returns : goal.returns
 unfolding asked asked_cells

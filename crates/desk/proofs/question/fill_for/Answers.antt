@@ -6,7 +6,7 @@ use Rattle.desk.proofs.question.fill_for.Goals as goal
 pub has_empty-requires : goal.has_empty-requires
 has_empty-requires c =
     let both = usable_box _ _ _ _ c.requires.usable c.requires.inside c.from.ensures in
-    record { holds = both.0; x_le_a = both.1 }
+    record { holds = both.0; within = both.1 }
 
 pub returns-then-not-has_empty : goal.returns-then-not-has_empty
 returns-then-not-has_empty c =
@@ -16,9 +16,9 @@ returns-then-not-has_empty c =
 pub fill_box-requires : goal.fill_box-requires
 fill_box-requires c =
     let both = box_ready _ _ _ _ c.requires.usable c.requires.inside c.requires.bounded c.lay_out.ensures in
-    record { box_ready = both.0; board_bound = both.1 }
+    record { box_ready = both.0; few = both.1 }
 
 pub returns : goal.returns
 returns c =
-    let both = box_filled _ _ _ _ c.requires.usable.range c.lay_out.ensures c.fill_box.ensures.value c.fill_box.ensures.t_after in
+    let both = box_filled _ _ _ _ c.requires.usable.range c.lay_out.ensures c.fill_box.ensures.worked c.fill_box.ensures.after in
     record { value = both.0; t_after = both.1 }

@@ -1,6 +1,5 @@
 use Prim.Native.Nat.{◌+◌, ◌≤◌, ◌-◌, max}
 use mathlib.Core.Path.{◌≡◌}
-use lib.ListN.{length}
 use Rattle.fill.specs.Inner.{parts_on}
 use Rattle.fill.proofs.Floors.{RaisedTo}
 use Rattle.fill.proofs.floor.raise_by_line.Given as goal
@@ -8,8 +7,4 @@ use Rattle.fill.proofs.floor.raise_by_line.Given as goal
 -- `raise_by_line`: the columns before u have been raised.
 abbrev pub invariant-loop-u : goal.invariant-loop-u
 invariant-loop-u l =
-    (l.from ≤ l.u) × (l.u ≤ max l.from (l.x + 1)) × (length l.floor ≡ length l.initial.floor)
-    × RaisedTo l.from l.u (parts_on l.board l.t l.w l.d) l.initial.floor l.floor
-
-abbrev pub decreases-loop-u : goal.decreases-loop-u
-decreases-loop-u l = l.x + 1 - l.u
+    (l.u ≤ max l.from (l.x + 1)) × RaisedTo l.from l.u (parts_on l.board l.t l.w l.d) l.initial.floor l.floor

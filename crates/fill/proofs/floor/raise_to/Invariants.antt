@@ -1,14 +1,9 @@
 use Prim.Native.Nat.{◌+◌, ◌≤◌, ◌-◌, max}
 use mathlib.Core.Path.{◌≡◌}
-use lib.ListN.{length}
 use Rattle.fill.proofs.Floors.{RaisedTo}
 use Rattle.fill.proofs.floor.raise_to.Given as goal
 
 -- `raise_to`: the columns before u have been raised.
 abbrev pub invariant-loop-u : goal.invariant-loop-u
 invariant-loop-u l =
-    (l.from ≤ l.u) × (l.u ≤ max l.from (l.x + 1)) × (length l.floor ≡ length l.initial.floor)
-    × RaisedTo l.from l.u (λ j. l.value) l.initial.floor l.floor
-
-abbrev pub decreases-loop-u : goal.decreases-loop-u
-decreases-loop-u l = l.x + 1 - l.u
+    (l.u ≤ max l.from (l.x + 1)) × RaisedTo l.from l.u (λ j. l.value) l.initial.floor l.floor

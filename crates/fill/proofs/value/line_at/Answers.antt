@@ -17,5 +17,5 @@ returns-then-marked c =
     let far = far_part_lem part c.rest.ensures c.cell-2.ensures in
     line_marked _ _ _ c.marked.ensures c.if-marked.true c.cell.ensures far
 
-pub returns : goal.returns
-returns c = line_unmarked _ _ _ c.marked.ensures c.if-marked.false
+pub returns-else-marked : goal.returns-else-marked
+returns-else-marked c = line_unmarked _ _ _ c.marked.ensures c.if-marked.false

@@ -26,7 +26,7 @@ use Rattle.job.specs.Range.{JobInRange}
 use Rattle.job.specs.Block.{BlockShape, job_in, count_in, piece_in}
 use Rattle.job.specs.Inner.{from_block}
 use Rattle.job.proofs.Pieces.{job_of_tidy}
-use Rattle.job.proofs.Blocks.{shape_says}
+use Rattle.job.proofs.Blocks.{from_block_no, from_block_yes}
 use Rattle.refusals.specs.Refusals.{bad_job, short_table, bad_piece, short_buffer}
 use Rattle.desk.specs.Refusals.{cells_of, Usable, open_refusals, OpenRefusal, ask_refusals, AskRefusal}
 use Rattle.desk.specs.Inner.{opened, filled_for}
@@ -43,16 +43,15 @@ use Rattle.plan.proofs.Best.{best_readable, best_tree}
 use Rattle.listing.specs.Line.{refused_text}
 use Rattle.program.specs.Sizes.{table_cells, plan_room}
 use Rattle.program.specs.Entry.{Stand, added_all, entered}
-use Rattle.program.specs.Program.{text_or, tree_lines, plan_text, planned_text, asked_text, entered_text, new_table, job_text, block_text, read, program_text}
+use Rattle.program.specs.Program.{text_or, tree_lines, plan_text, planned_text, asked_text, entered_text, new_table, job_text, program_text}
 pub use Rattle.program.specs.Best.{BestTree, file_length, PrintsBest, PlanTooLong}
-use Rattle.program.proofs.Texts.{or_refused, or_text, block_few}
+use Rattle.program.proofs.Texts.{or_refused, or_text, block_none, block_some, block_few}
 use Rattle.program.proofs.Entered.{entered_still}
 use Rattle.program.proofs.Begun.{NoneFilled, Begun, BadPiece, enters}
 
 -- Bytes that are no job block get 1 (rule 9.3).
 pub program_shapeless : (block : List ℕ) → (BlockShape block → ⊥) → program_text block ≡ refused_text bad_job
-unfolding program_text block_text from_block
-program_shapeless block h = rw (says_no (shape_says block) h)
+program_shapeless block h = block_none block (sym (from_block_no block h))
 
 table-length : length new_table ≡ table_cells
 unfolding new_table
@@ -167,13 +166,12 @@ module _ (block : List ℕ) where
     abbrev stand : Stand
     stand = entered own new_table
 
-    is_read : read (from_block block) ≡ Some own
-    unfolding from_block
-    is_read = rw ((shape_says block).found shape)
+    is_read : Some own ≡ from_block block
+    is_read = from_block_yes block shape refl
 
     entered_prints : entered_text stand.answer stand.cells ≡ program_text block
-    unfolding program_text block_text job_text
-    entered_prints = ap block_text (sym is_read)
+    unfolding job_text
+    entered_prints = block_some block (sym is_read)
 
     few : length (by_index (piece_in block) (count_in block)) ≤ pieces_max
     few = omega (arith, shape.most, by_index-length (piece_in block) (count_in block))

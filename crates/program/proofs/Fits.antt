@@ -25,7 +25,7 @@ use Rattle.plan.proofs.Tracing.{tree_by_rules, tree_dissects}
 use Rattle.plan.proofs.Writing.{file-length}
 use Rattle.listing.proofs.Lengths.{head-length, refused-length, listing-length}
 use Rattle.program.specs.Sizes.{plan_room, text_most}
-use Rattle.program.specs.Program.{text_or, tree_lines, plan_text, planned_text, asked_text, entered_text, new_table, job_text, block_text, read, program_text}
+use Rattle.program.specs.Program.{text_or, tree_lines, plan_text, planned_text, asked_text, entered_text, new_table, job_text, block_text, program_text}
 use Rattle.program.proofs.Texts.{plan_with}
 use Rattle.program.proofs.Digits.{ask_digits, plan_digits, entered_digits}
 
@@ -74,7 +74,7 @@ job_fits from = or_fits _ _ (entered_digits from new_table) (λ _. asked_fits _ 
 
 pub text_fits : (block : List ℕ) → length (program_text block) ≤ text_most
 unfolding program_text block_text
-text_fits block = by (read (from_block block))
+text_fits block = by (from_block block)
   where
     by : (o : Option Job) → length (block_text o) ≤ text_most
     by (Some from) = job_fits from

@@ -2,7 +2,6 @@
 use Prim.Native.Nat.{ℕ, zero, suc, ◌+◌, ◌≤◌}
 use mathlib.Core.Bool.{Bool, true, false}
 use Rattle.std.proofs.Common.{Some, None, Result, Ok, Err, IsErrAnd}
-use Rattle.std.proofs.lemmas.Option.{none-some, same_Some}
 use Rattle.refusals.specs.declared.Refusal.{Refusal}
 use Rattle.refusals.specs.Refusals.{bad_job, number}
 use Rattle.refusals.proofs.Numbers.{never_zero}
@@ -18,9 +17,11 @@ use Rattle.cells.specs.Box.{is_empty, count_in_box}
 use Rattle.job.specs.declared.Job.{Job}
 use Rattle.job.specs.Job.{job_of}
 use Rattle.job.specs.Block.{job_in, count_in, piece_in}
-use Rattle.job.specs.Inner.{block_shape, from_block}
+use Rattle.job.specs.Inner.{from_block}
 use Rattle.job.specs.Range.{JobInRange}
-use Rattle.job.proofs.Blocks.{shape_says}
+use Rattle.job.proofs.Blocks.{from_block_some}
+use Rattle.printing.specs.declared.Text.{Text}
+use Rattle.printing.proofs.Printed.{writes_nothing}
 use Rattle.desk.specs.Changing.{Changed}
 use Rattle.desk.specs.Asking.{Answered, Refused}
 use Rattle.desk.specs.Inner.{accepted, ask_refused, asked, asked_cells, filled_for, asked_with}
@@ -31,7 +32,7 @@ use Rattle.plan.proofs.Exactly.{plan_granted}
 use Rattle.listing.specs.Line.{refused_text}
 use Rattle.program.specs.Sizes.{plan_room}
 use Rattle.program.specs.Inner.{HoldsPlan, AnswersAs, PrintsText}
-use Rattle.program.specs.Program.{text_or, plan_text, planned_text, asked_text, entered_text, job_text, block_text, read, program_text}
+use Rattle.program.specs.Program.{text_or, plan_text, planned_text, asked_text, entered_text, job_text, block_text, program_text}
 
 -- A refusal, or the text.
 pub or_refused : (n : ℕ) (text : List ℕ) → (n ≡ 0 → ⊥) → refused_text n ≡ text_or n text
@@ -48,10 +49,10 @@ pub refusal_text : (refusal : Refusal) {n : ℕ} (text : List ℕ) → number re
 refusal_text refusal text e = ap (λ (k : ℕ). text_or k text) (sym e) ∙ sym (or_refused (number refusal) text (never_zero refusal))
 
 -- Where `?` hands a refusal on, nothing is printed.
-pub text_left : {text : List ℕ} (o : List ℕ) (r : Result ℕ Refusal) (refusal : Refusal) → IsErrAnd r (λ e. e ≡ refusal)
-    → text ≡ refused_text (number refusal) → PrintsText text o r o
-text_left o (Ok n) refusal e f = absurd e
-text_left o (Err other) refusal e f = (f ∙ ap (λ (k : Refusal). refused_text (number k)) (sym e), refl)
+pub text_left : {text : List ℕ} (t : Text) (r : Result (Unit {0}) Refusal) (refusal : Refusal) → IsErrAnd r (λ e. e ≡ refusal)
+    → text ≡ refused_text (number refusal) → PrintsText text t r t
+text_left t (Ok n) refusal e f = absurd e
+text_left t (Err other) refusal e f = (f ∙ ap (λ (k : Refusal). refused_text (number k)) (sym e), writes_nothing t)
 
 -- What an accepted plan may count on, with a buffer that has this room.
 pub plan_with : (job : Job) (t : List ℕ) (x y room : ℕ) → plan_refused job t x y room ≡ 0 → Ready job t x y (replicate room 0)
@@ -165,18 +166,16 @@ module _ (answer : Changed) (t : List ℕ) where
   entered_text_lem e f = λ i. text_or (e i).refusal (asked_text (e i).job (f i))
 
 -- The block.
-pub block_none : (s : List ℕ) → read (from_block s) ≡ None → program_text s ≡ refused_text bad_job
+pub block_none : (s : List ℕ) → from_block s ≡ None → program_text s ≡ refused_text bad_job
 unfolding program_text block_text
 block_none s e = ap block_text e
 
-pub block_some : (s : List ℕ) {from : Job} → read (from_block s) ≡ Some from → job_text from ≡ program_text s
+pub block_some : (s : List ℕ) {from : Job} → from_block s ≡ Some from → job_text from ≡ program_text s
 unfolding program_text block_text
 block_some s e = ap block_text (sym e)
 
-pub block_few : (s : List ℕ) {job : Job} → read (from_block s) ≡ Some job → job.count ≤ pieces_max
-unfolding from_block job_in job_of
-block_few s {job} e = go (block_shape s) refl
-  where
-    go : (b : Bool) → block_shape s ≡ b → job.count ≤ pieces_max
-    go true h = let own : job_in s ≡ job = same_Some _ _ (rw h at e) in omega (arith, ((shape_says s).means h).most, by_index-length (piece_in s) (count_in s), ap (λ (j : Job). j.count) own)
-    go false h = absurd (none-some job (rw h at e))
+pub block_few : (s : List ℕ) {job : Job} → Some job ≡ from_block s → job.count ≤ pieces_max
+unfolding job_in job_of
+block_few s e =
+    let k = from_block_some s e in
+    omega (arith, k.0.most, by_index-length (piece_in s) (count_in s), ap (λ (j : Job). j.count) k.1)

@@ -1,11 +1,10 @@
 -- The text that the program prints for its input (rule 9.1).
-use Rattle.std.specs.Prelude.{ℕ, zero, suc, cond, List, ◌++◌, replicate, Option, Some, None}
+use Rattle.std.specs.Prelude.{ℕ, zero, suc, List, ◌++◌, replicate, Option, Some, None}
 use Rattle.cells.specs.Cells.{cell_of}
 use Rattle.cells.specs.Box.{is_empty, count_in_box}
 use Rattle.job.specs.declared.Job.{Job}
 use Rattle.job.specs.Job.{pieces_of}
 use Rattle.job.specs.Inner.{from_block}
-use Rattle.job.specs.declared.Blocked.{Blocked}
 use Rattle.desk.specs.Changing.{Changed}
 use Rattle.refusals.specs.Refusals.{bad_job}
 use Rattle.desk.specs.Inner.{ask_refused, filled_for}
@@ -56,8 +55,5 @@ unfoldable pub block_text : Option Job → List ℕ
 block_text (Some job) = job_text job
 block_text None = refused_text bad_job
 
-abbrev pub read : Blocked → Option Job
-read b = cond b.ok (Some b.job) None
-
 unfoldable pub program_text : List ℕ → List ℕ
-program_text block = block_text (read (from_block block))
+program_text block = block_text (from_block block)

@@ -5,6 +5,7 @@
 ghost use Rattle.program.specs.Promise.{ProgramPromise};
 
 use listing::line::put_refused;
+use printing::Text;
 
 mod entry;
 mod whole;
@@ -21,8 +22,9 @@ pub const TEXT: usize = 414_805;
 pub fn run(block: &[u8], text: &mut [u8; TEXT]) -> usize
     ensures { ProgramPromise block.now text.old result text.new }
 {
-    match whole::print_sheet(block, text) {
-        Ok(length) => length,
-        Err(refusal) => put_refused(text, 0, u32::from(refusal) as usize),
+    let mut out = Text::new(text);
+    if let Err(refusal) = whole::print_sheet(block, &mut out) {
+        put_refused(&mut out, u32::from(refusal) as usize);
     }
+    out.at
 }

@@ -1,9 +1,8 @@
 use Prim.Native.Nat.{ℕ}
 use native.Mathlib.Omega.{arith}
-use mathlib.Core.List.{List}
-use mathlib.Core.Path.{sym, subst, ◌∙◌}
+use mathlib.Core.Path.{◌∙◌}
 use lib.ListN.{length}
-use Rattle.board.specs.Inner.{Gives, step_at, Rising}
+use Rattle.board.specs.Inner.{Gives}
 use Rattle.board.proofs.Marking.{Further, passing_start, passing_end, pass_on, ascending_none, ascending_same, ascending_more}
 use Rattle.board.proofs.points.marks_of.Goals as goal
 use Rattle.board.proofs.points.marks_of.Goals.{then-led, else-led+then-marks-last, else-led+else-marks-last}
@@ -23,7 +22,8 @@ loop-last-preserved g c =
           let grown = w.steps-is ∙ w.push.ensures in
           (omega arith, ascending_more c.loop-last.invariant.1 grown, λ of gives. (further of gives).size w.if-led.false w.if-marks-last.true w.marks-is grown)
       | else-led+else-marks-last w ↦
-          (omega arith, ascending_same c.loop-last.invariant.1 w.steps-is, λ of gives. (further of gives).none w.if-led.false w.if-marks-last.false w.marks-is w.steps-is)
+          let none = w.if-marks-last.false in
+          (omega arith, ascending_same c.loop-last.invariant.1 w.steps-is, λ of gives. (further of gives).none w.if-led.false none w.marks-is w.steps-is)
     ]
 
 pub returns : goal.returns

@@ -1,7 +1,7 @@
 -- What stands on the board of a job.
 use Prim.Native.Nat.{ℕ, ◌-◌, ◌≤◌, ◌<◌}
 use mathlib.Core.HLevel.{is_prop→PathP}
-use mathlib.Core.Path.{◌≡◌, sym, ◌∙◌}
+use mathlib.Core.Path.{◌≡◌, refl, sym, ap, ◌∙◌}
 use mathlib.Core.List.{List, ◌++◌}
 use native.Mathlib.Bridge.{le_prop}
 use native.Mathlib.Omega.{arith}
@@ -15,7 +15,7 @@ use Rattle.std.proofs.lemmas.List.{length-take, get_or-take}
 use Rattle.job.specs.declared.Piece.{Piece as Record}
 use Rattle.job.specs.Job.{no_record}
 use Rattle.board.specs.declared.Board.{Board}
-use Rattle.board.specs.Inner.{entries, count_on, record_at, pieces_board}
+use Rattle.board.specs.Inner.{entries, width_on, height_on, count_on, record_at, pieces_board}
 
 -- Two boards with the same fields are one.
 pub same_board : (b d : Board) → b.width ≡ d.width → b.height ≡ d.height → b.count ≡ d.count → b.pieces ≡ d.pieces → b.across ≡ d.across → b.up ≡ d.up → b ≡ d
@@ -29,10 +29,6 @@ same_board b d width height count pieces across up =
       up = up i;
       few = is_prop→PathP (λ j. count j ≤ entries) (λ j. le_prop) b.few d.few i;
     }
-
--- What stands at an index of the first n records.
-pub first_record : (n : ℕ) (records : List Record) (k : ℕ) → k < length (take n records) → get_or (take n records) k no_record ≡ get_or records k no_record
-first_record n records k h = get_or-take n records k no_record (omega (arith, h, length-take n records))
 
 -- The records on the board are the job's, and none behind them.
 pub pieces_record : (job : Job) (k : ℕ) → record_at (pieces_board job) k ≡ get_or job.pieces k no_record
@@ -53,6 +49,22 @@ pieces_record job k = ⊎_elim (λ h. past h) (λ h. get_or-append job.pieces re
             (λ l. get_or-replicate {A = Record} (entries - pieces_max) j no_record no_record l)
             (le_or_lt (entries - pieces_max) j)
 
+pub pieces_width : (job : Job) → width_on (pieces_board job) ≡ job.width
+unfolding pieces_board
+pieces_width job = refl
+
+pub pieces_height : (job : Job) → height_on (pieces_board job) ≡ job.height
+unfolding pieces_board
+pieces_height job = refl
+
 pub pieces_count : (job : Job) → job.count ≤ pieces_max → count_on (pieces_board job) ≡ job.count
 unfolding pieces_board
 pieces_count job few = omega (arith, few)
+
+-- The job's first records stand on its board.
+pub job_record : (job : Job) (k : ℕ) {first : List Record} → first ≡ take job.count job.pieces → k < length first
+    → get_or first k no_record ≡ record_at (pieces_board job) k
+job_record job k {first} e h =
+    ap (λ (l : List Record). get_or l k no_record) e
+    ∙ (get_or-take job.count job.pieces k no_record (omega (arith, h, ap (λ (l : List Record). length l) e, length-take job.count job.pieces))
+    ∙ sym (pieces_record job k))

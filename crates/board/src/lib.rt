@@ -42,16 +42,8 @@ impl Board {
         requires { job.now.count ≤ pieces_max }
         ensures { result ≡ pieces_board job.now }
     {
-        let mut pieces = [Piece::default(); ENTRIES];
-        pieces[..job.pieces.len()].copy_from_slice(&job.pieces);
-        Board {
-            width: job.width,
-            height: job.height,
-            count: job.count,
-            pieces,
-            across: [false; MARKS],
-            up: [false; MARKS],
-        }
+        let none = [false; MARKS];
+        Board::with_marks(job, &none, &none)
     }
 
     // The whole board of a job: its pieces, and the marks of P from their widths and of Q from their heights.
@@ -59,13 +51,25 @@ impl Board {
         requires { JobInRange job.now }
         ensures { result ≡ board_of job.now }
     {
-        let mut board = Board::of_pieces(job);
-        let pieces = &board.pieces[..board.count()];
-        let across = marks_of(pieces, |piece| piece.width, board.width());
-        let up = marks_of(pieces, |piece| piece.height, board.height());
-        board.across = across;
-        board.up = up;
-        board
+        let across = marks_of(job.pieces(), |piece| piece.width, usize::from(job.width));
+        let up = marks_of(job.pieces(), |piece| piece.height, usize::from(job.height));
+        Board::with_marks(job, &across, &up)
+    }
+
+    fn with_marks(job: &Job, across: &Marks, up: &Marks) -> Board
+        requires { job.now.count ≤ pieces_max }
+        ensures { result ≡ record (pieces_board job.now) { across = across.now; up = up.now } }
+    {
+        let mut pieces = [Piece::default(); ENTRIES];
+        pieces[..job.pieces.len()].copy_from_slice(&job.pieces);
+        Board {
+            width: job.width,
+            height: job.height,
+            count: job.count,
+            pieces,
+            across: *across,
+            up: *up,
+        }
     }
 
     pub fn width(&self) -> usize

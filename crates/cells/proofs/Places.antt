@@ -79,10 +79,3 @@ unfolding place
 row_within {a} {w} x s h =
     let k : suc (w - 1) * a ≤ w * a = mul-le-mul_right a (omega arith) in
     omega (arith, suc-mul (w - 1) a, mul_comm a w)
-
--- The rest of row y from column x on ends where the sheet a by y does.
-pub row_rest : {a x y : ℕ} → Inside x y a y → place a x y + (a + 1 - x) ≡ a * y
-unfolding place
-row_rest {a} {x} {y} i =
-    let k : suc (y - 1) * a ≡ y * a = ap (λ (n : ℕ). n * a) (omega arith) in
-    omega (arith, suc-mul (y - 1) a, mul_comm a y)

@@ -64,14 +64,14 @@ pub fn empty_where_fits(t: &mut [u32], a: usize, b: usize, p: usize, q: usize)
 }
 
 // Empties row y from column p on. The row is the last one of a sheet a by y.
+// Cell by cell: `fill` on that part of the row takes 3 to 4 % more instructions in add, correct and remove.
 fn empty_row(t: &mut [u32], a: usize, p: usize, y: usize)
     requires holds { Holds a y t.old }
     requires least { 1 ≤ p }
     ensures { t.new ≡ emptied_where a y (row_from a p y) t.old }
 {
-    if p <= a {
-        let first = place(a, p, y);
-        t[first..first + (a + 1 - p)].fill(EMPTY);
+    for x in p..a + 1 {
+        store(t, a, x, y, EMPTY);
     }
 }
 

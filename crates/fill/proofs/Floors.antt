@@ -5,13 +5,11 @@ use mathlib.Core.List.{List}
 use mathlib.Core.Path.{◌≡◌, refl, sym, ap, ap₂, ◌∙◌, subst}
 use native.Mathlib.Omega.{arith}
 use native.Mathlib.Decide.{ℕ_discrete}
-use native.Mathlib.Numerals.{add-one}
 use lib.Dec.{leb, ltb}
 use lib.ListN.{length, get_or, set, replicate}
 use lib.Seq.{get_or-set_same, get_or-set_other}
 use Rattle.laws.specs.Inner.{Says}
 use Rattle.laws.proofs.Says.{says_and, says_le, says_lt, says_iff, says_same, says_no, says_false}
-use Rattle.laws.proofs.Below.{best_below_more}
 use Rattle.cutting.specs.Piece.{Fits, Inside}
 use Rattle.cutting.specs.Dissection.{rest}
 use Rattle.cells.specs.Cells.{cell_of}
@@ -113,6 +111,10 @@ module _ (width height value : ℕ → ℕ) (from x w : ℕ) where
       → v ≡ value k → Raises from x (λ u. value_in p q v u w) f f' → Columns from x (λ u. fitting_value width height value (k + 1) u w) f'
   pieces_more k {f} {f'} h d e g r =
       record { at = λ u a b. fitting_more width height value u w k (h.at u a b) (λ i. value_in (d i) (e i) (g i) u w) (raised_in from x _ f f' r u a b) }
+
+  pub pieces_end : {k n : ℕ} {f : List ℕ} → Columns from x (λ u. fitting_value width height value k u w) f → k ≡ n
+      → Columns from x (λ u. fitting_value width height value n u w) f
+  pieces_end {k} {n} {f} h e = subst (λ (m : ℕ). Columns from x (λ u. fitting_value width height value m u w) f) e h
 
 -- Line by line: column u of a floor f once the lines at 1, …, d have been tried.
 unfoldable pub lined : (ℕ → Bool) → (ℕ → ℕ → ℕ) → ℕ → List ℕ → ℕ → ℕ → ℕ

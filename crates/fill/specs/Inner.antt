@@ -5,6 +5,7 @@ use Rattle.cutting.specs.Inner.{half_of}
 use Rattle.cutting.specs.Dissection.{rest, Line}
 use Rattle.cells.specs.Cells.{cell_of, empty, place}
 use Rattle.cells.specs.Inner.{Holds, fits, redrawn}
+use Rattle.board.specs.declared.Board.{Board}
 use Rattle.board.specs.Inner.{Rows, rows_on, width_on, height_on, count_on, width_at, height_at, value_at, marked_at}
 use Rattle.cells.specs.Box.{is_empty}
 use Rattle.cutting.specs.Limits.{value_max}
@@ -119,21 +120,21 @@ pub record BoxReady (rows : Rows) (a b x y : ℕ) (t : List ℕ) : Type 0 where
 
 -- The same, read off a board.
 
-abbrev pub cell_on : List ℕ → List ℕ → ℕ → ℕ → ℕ
+abbrev pub cell_on : Board → List ℕ → ℕ → ℕ → ℕ
 cell_on board t = cell_of (width_on board) t
 
-abbrev pub fitting_on : List ℕ → ℕ → ℕ → ℕ
+abbrev pub fitting_on : Board → ℕ → ℕ → ℕ
 fitting_on board u w = fitting_value (width_at board) (height_at board) (value_at board) (count_on board) u w
 
-abbrev pub floor_on : List ℕ → List ℕ → ℕ → ℕ → ℕ
+abbrev pub floor_on : Board → List ℕ → ℕ → ℕ → ℕ
 floor_on board t w = floor_by (width_at board) (height_at board) (value_at board) (count_on board) (marked_at board true) (cell_on board t) w
 
 -- What the lines up give in column u, and the line at d.
-abbrev pub lines_on : List ℕ → List ℕ → ℕ → ℕ → ℕ
+abbrev pub lines_on : Board → List ℕ → ℕ → ℕ → ℕ
 lines_on board t w u = line_value (marked_at board true) (λ d. cell_on board t u d) w
 
-abbrev pub parts_on : List ℕ → List ℕ → ℕ → ℕ → ℕ → ℕ
+abbrev pub parts_on : Board → List ℕ → ℕ → ℕ → ℕ → ℕ
 parts_on board t w d u = cell_on board t u d + cell_on board t u (rest w d)
 
-abbrev pub filled_on : List ℕ → ℕ → ℕ → List ℕ → List ℕ
+abbrev pub filled_on : Board → ℕ → ℕ → List ℕ → List ℕ
 filled_on board x y t = filled (rows_on board) (width_on board) (height_on board) x y t

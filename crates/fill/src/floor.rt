@@ -2,12 +2,13 @@
 // piece and line by line, so that the inner loops go along the row.
 ghost use Rattle.std.specs.Prelude.{◌≡◌, ◌≤◌, ◌<◌, max, length, get_or};
 ghost use Rattle.cutting.specs.Limits.{side_max};
-ghost use Rattle.board.specs.Inner.{entries, width_on, count_on};
+ghost use Rattle.board.specs.Inner.{width_on};
 ghost use Rattle.fill.specs.Inner.{Raises, Columns, LinesUp, value_in, fitting_on, lines_on, parts_on, floor_on};
 
 use crate::look::cell;
 use board::line::rest;
-use board::{Board, MARKS, count, marked, piece_height, piece_value, piece_width};
+use board::{Board, MARKS};
+use job::Piece;
 
 // A number for each column, from 1 on.
 pub type Floor = [u32; MARKS];
@@ -22,27 +23,29 @@ fn raise_to(floor: &mut [u32], from: usize, x: usize, value: u32)
     }
 }
 
-// Raises the floor of the columns from..=x by a piece p by q of value v, where it fits in row w.
-fn raise_by_piece(floor: &mut [u32], from: usize, x: usize, w: usize, p: u16, q: u16, v: u16)
+// Raises the floor of the columns from..=x by a piece, where it fits in row w.
+fn raise_by_piece(floor: &mut [u32], from: usize, x: usize, w: usize, piece: Piece)
     requires { (x ≤ side_max) × (side_max < length floor.old) }
-    ensures { Raises from x (λ u. value_in p q v u w) floor.old floor.new }
+    ensures { Raises from x (λ u. value_in piece.width piece.height piece.value u w) floor.old floor.new }
 {
-    if usize::from(q) <= w {
-        raise_to(floor, from.max(usize::from(p)), x, u32::from(v));
+    if usize::from(piece.height) <= w {
+        raise_to(
+            floor,
+            from.max(usize::from(piece.width)),
+            x,
+            u32::from(piece.value),
+        );
     }
 }
 
 // Raises the floor of the columns from..=x by every piece.
 fn raise_by_pieces(floor: &mut [u32], board: &Board, from: usize, x: usize, w: usize)
-    requires bounds { (x ≤ side_max) × (side_max < length floor.old) × (count_on board.now ≤ entries) }
+    requires bounds { (x ≤ side_max) × (side_max < length floor.old) }
     requires columns { Columns from x (λ u. 0) floor.old }
     ensures { Columns from x (λ u. fitting_on board.now u w) floor.new }
 {
-    for k in 0..count(board) {
-        let p = piece_width(board, k);
-        let q = piece_height(board, k);
-        let v = piece_value(board, k);
-        raise_by_piece(floor, from, x, w, p, q, v);
+    for k in 0..board.count() {
+        raise_by_piece(floor, from, x, w, board.piece(k));
     }
 }
 
@@ -73,7 +76,7 @@ fn raise_by_lines(floor: &mut [u32], t: &[u32], board: &Board, from: usize, x: u
     ensures { Columns from x (λ u. max (get_or floor.old u 0) (lines_on board.now t.now w u)) floor.new }
 {
     for d in 1..w / 2 + 1 {
-        if marked(board, true, d) {
+        if board.marked(true, d) {
             raise_by_line(floor, t, board, from, x, w, d);
         }
     }
@@ -81,8 +84,7 @@ fn raise_by_lines(floor: &mut [u32], t: &[u32], board: &Board, from: usize, x: u
 
 // The floor of the columns from..=x of row w.
 pub fn floor_of(t: &[u32], board: &Board, from: usize, x: usize, w: usize) -> Floor
-    requires lines_up { LinesUp (width_on board.now) t.now from x w }
-    requires few { count_on board.now ≤ entries }
+    requires { LinesUp (width_on board.now) t.now from x w }
     ensures { Columns from x (floor_on board.now t.now w) result }
 {
     let mut floor: Floor = [0; MARKS];

@@ -5,7 +5,7 @@
 ghost use Rattle.std.specs.Prelude.{◌≡◌, false, ◌≤◌};
 ghost use Rattle.cells.specs.Inner.{Holds};
 ghost use Rattle.cells.specs.Box.{is_empty, counted, count_in_row, count_in_box};
-ghost use Rattle.board.specs.Inner.{entries, width_on, height_on, count_on, marked_at, rows_on};
+ghost use Rattle.board.specs.Inner.{width_on, height_on, marked_at, rows_on};
 ghost use Rattle.fill.specs.Inner.{cell_raised, FullBefore, filled_on, Around, RowReady, BoxReady};
 
 mod floor;
@@ -43,7 +43,7 @@ fn first_empty(t: &[u32], board: &Board, x: usize, w: usize) -> usize
 // Fills row w from column `from` up to column x. Answers how many of its cells were empty.
 fn fill_columns(t: &mut [u32], board: &Board, from: usize, x: usize, w: usize) -> u32
     requires row_ready { RowReady (rows_on board.now) (width_on board.now) (height_on board.now) x w t.old }
-    requires full_before { FullBefore (width_on board.now) t.old x w from × (count_on board.now ≤ entries) }
+    requires full_before { FullBefore (width_on board.now) t.old x w from }
     ensures worked { result ≡ count_in_row x w (is_empty (width_on board.now) t.old) }
     ensures after { t.new ≡ filled_on board.now x w t.old }
 {
@@ -57,8 +57,7 @@ fn fill_columns(t: &mut [u32], board: &Board, from: usize, x: usize, w: usize) -
 
 // Fills row w up to column x. Answers how many of its cells were empty; where none was, nothing is worked out.
 fn fill_row(t: &mut [u32], board: &Board, x: usize, w: usize) -> u32
-    requires row_ready { RowReady (rows_on board.now) (width_on board.now) (height_on board.now) x w t.old }
-    requires few { count_on board.now ≤ entries }
+    requires { RowReady (rows_on board.now) (width_on board.now) (height_on board.now) x w t.old }
     ensures worked { result ≡ count_in_row x w (is_empty (width_on board.now) t.old) }
     ensures after { t.new ≡ filled_on board.now x w t.old }
 {
@@ -71,8 +70,7 @@ fn fill_row(t: &mut [u32], board: &Board, x: usize, w: usize) -> u32
 
 // Fills the box x by y of the sheet on the board. Answers how many of its cells were empty.
 pub fn fill_box(t: &mut [u32], board: &Board, x: usize, y: usize) -> u32
-    requires box_ready { BoxReady (rows_on board.now) (width_on board.now) (height_on board.now) x y t.old }
-    requires few { count_on board.now ≤ entries }
+    requires { BoxReady (rows_on board.now) (width_on board.now) (height_on board.now) x y t.old }
     ensures worked { result ≡ count_in_box x y (is_empty (width_on board.now) t.old) }
     ensures after { t.new ≡ filled_on board.now x y t.old }
 {

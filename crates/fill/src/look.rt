@@ -13,7 +13,7 @@ pub fn cell(t: &[u32], board: &Board, x: usize, y: usize) -> u32
     requires inside { Inside x y (width_on board.now) y }
     ensures { result ≡ cell_of (width_on board.now) t.now x y }
 {
-    cells::cell(t, board::width(board), x, y)
+    cells::cell(t, board.width(), x, y)
 }
 
 pub fn store(t: &mut [u32], board: &Board, x: usize, y: usize, value: u32)
@@ -21,12 +21,12 @@ pub fn store(t: &mut [u32], board: &Board, x: usize, y: usize, value: u32)
     requires inside { Inside x y (width_on board.now) y }
     ensures { t.new ≡ set t.old (place (width_on board.now) x y) value }
 {
-    cells::store(t, board::width(board), x, y, value);
+    cells::store(t, board.width(), x, y, value);
 }
 
 pub fn row_has_empty(t: &[u32], board: &Board, x: usize, w: usize) -> bool
     requires { Holds (width_on board.now) w t.now × (x ≤ width_on board.now) }
     ensures { result ≡ any_in_row x w (is_empty (width_on board.now) t.now) }
 {
-    cells::row_has_empty(t, board::width(board), x, w)
+    cells::row_has_empty(t, board.width(), x, w)
 }

@@ -4,8 +4,8 @@ ghost use Rattle.board.specs.Inner.{width_on, marked_at};
 ghost use Rattle.fill.specs.Inner.{cell_on, line_at, line_value, RowLines};
 
 use crate::look::cell;
+use board::Board;
 use board::line::rest;
-use board::{Board, marked};
 
 // What a line at c through row w, of length x, gives: its two parts' numbers where c is marked, else 0.
 // Both are read before the mark is looked at, so that the loop has no branch.
@@ -15,7 +15,7 @@ fn line_at(t: &[u32], board: &Board, w: usize, x: usize, c: usize) -> u32
     ensures { result ≡ line_at (marked_at board.now false) (λ k. cell_on board.now t.now k w) x c }
 {
     let both = cell(t, board, c, w) + cell(t, board, rest(x, c), w);
-    if marked(board, false, c) { both } else { 0 }
+    if board.marked(false, c) { both } else { 0 }
 }
 
 // The most that a marked line through row w, of length x, gives, up to the middle.

@@ -20,6 +20,7 @@ pub fn block_length(count: usize) -> usize
     HEAD_BYTES + count * PIECE_BYTES
 }
 
+#[tactic(auto, unfolding(crate::specs::Block::piece_from))]
 fn piece_from(s: &[u8], at: usize) -> Piece
     requires { at + piece_bytes ≤ length s.now }
     ensures { result ≡ record_of (piece_from s.now at) }

@@ -87,9 +87,9 @@ impl Job {
             && self.pieces_in_range()
     }
 
-    fn pieces_in_range(self) -> bool
-        requires { self.count ≤ pieces_max }
-        ensures { result ≡ pieces_in_range self }
+    fn pieces_in_range(&self) -> bool
+        requires { self.now.count ≤ pieces_max }
+        ensures { result ≡ pieces_in_range self.now }
     {
         self.pieces().iter().all(|piece| piece.in_range())
     }

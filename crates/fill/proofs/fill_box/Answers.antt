@@ -8,20 +8,17 @@ pub loop-w-init : goal.loop-w-init
 loop-w-init c = (filled_none _ _ _ _ _ _ (inr (omega arith)), sym (count_in_box_none _ _))
 
 pub fill_row-worked-requires : goal.fill_row-worked-requires
-fill_row-worked-requires c = record {
-  row_ready = box_row _ _ _ _ _ _ c.requires.box_ready _ _ (omega arith) (omega arith) c.loop-w.invariant.0;
-  few = c.requires.few;
-}
+fill_row-worked-requires c = box_row _ _ _ _ _ _ c.requires _ _ (omega arith) (omega arith) c.loop-w.invariant.0
 
 pub overflow_add-worked : goal.overflow_add-worked
 overflow_add-worked c =
     let inv = c.loop-w.invariant in
-    omega (arith, box_within _ _ _ _ _ _ c.requires.box_ready _ _ (omega arith) (omega arith) inv.0 inv.1 c.fill_row-worked.ensures.worked)
+    omega (arith, box_within _ _ _ _ _ _ c.requires _ _ (omega arith) (omega arith) inv.0 inv.1 c.fill_row-worked.ensures.worked)
 
 pub loop-w-preserved : goal.loop-w-preserved
 loop-w-preserved c =
     let inv = c.loop-w.invariant in
-    let ready = c.requires.box_ready in
+    let ready = c.requires in
     let next : c.loop-w.w + 1 - 1 ≡ c.loop-w.w = omega arith in
     rw next (
       box_more _ _ _ _ _ _ ready _ _ (omega arith) (omega arith) inv.0 c.fill_row-worked.ensures.after,

@@ -4,14 +4,11 @@ use Rattle.fill.proofs.Rounds.{entered, entered_count, lines_up, row_around, row
 use Rattle.fill.proofs.fill_columns.Goals as goal
 
 pub floor_of-floor-requires : goal.floor_of-floor-requires
-floor_of-floor-requires c = record {
-  lines_up = lines_up _ _ _ _ _ _ _ c.requires.row_ready c.requires.full_before.0;
-  few = c.requires.full_before.1;
-}
+floor_of-floor-requires c = lines_up _ _ _ _ _ _ _ c.requires.row_ready c.requires.full_before
 
 pub loop-u-init : goal.loop-u-init
 loop-u-init c =
-    let full = c.requires.full_before.0 in
+    let full = c.requires.full_before in
     (entered _ _ _ _ _ _ _ c.requires.row_ready full, entered_count _ _ _ _ _ _ _ c.requires.row_ready full)
 
 pub fill_cell-worked-requires : goal.fill_cell-worked-requires

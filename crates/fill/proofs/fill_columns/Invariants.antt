@@ -1,4 +1,4 @@
-use Rattle.std.proofs.Common.{◌-◌, ◌≡◌, length}
+use Rattle.std.proofs.Common.{◌-◌, ◌≡◌}
 use Rattle.cells.specs.Box.{is_empty, count_in_row}
 use Rattle.board.specs.Inner.{width_on}
 use Rattle.fill.specs.Inner.{filled_on}

@@ -12,4 +12,4 @@ pub returns : goal.returns
 unfolding asked asked_cells
 returns c =
     asked_given _ c.in_ok-of_ask.ensures refl
-    (read_at _ _ c.cell-value.ensures c.from.ensures c.fill_for-worked.ensures.t_after) c.fill_for-worked.ensures.value c.fill_for-worked.ensures.t_after
+    (read_at _ _ c.cell-value.ensures c.from.ensures c.fill_for-worked.ensures.after) c.fill_for-worked.ensures.worked c.fill_for-worked.ensures.after

@@ -10,15 +10,14 @@ has_empty-requires c =
 
 pub returns-then-not-has_empty : goal.returns-then-not-has_empty
 returns-then-not-has_empty c =
-    let both = box_still c.args.job _ _ _ c.from.ensures c.has_empty.ensures c.if-not-has_empty.true in
-    record { value = both.0; t_after = both.1 }
+    let both = box_still c.args.job.now _ _ _ c.from.ensures c.has_empty.ensures c.if-not-has_empty.true in
+    record { worked = both.0; after = both.1 }
 
 pub fill_box-requires : goal.fill_box-requires
 fill_box-requires c =
-    let both = box_ready _ _ _ _ c.requires.usable c.requires.inside c.requires.bounded c.lay_out.ensures in
-    record { box_ready = both.0; few = both.1 }
+    box_ready _ _ _ _ c.requires.usable c.requires.inside c.requires.bounded c.of-board.ensures
 
 pub returns : goal.returns
 returns c =
-    let both = box_filled _ _ _ _ c.requires.usable.range c.lay_out.ensures c.fill_box.ensures.worked c.fill_box.ensures.after in
-    record { value = both.0; t_after = both.1 }
+    let both = box_filled _ _ _ _ c.requires.usable.range c.of-board.ensures c.fill_box.ensures.worked c.fill_box.ensures.after in
+    record { worked = both.0; after = both.1 }

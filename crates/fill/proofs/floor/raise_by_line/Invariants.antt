@@ -1,5 +1,4 @@
-use Prim.Native.Nat.{◌+◌, ◌≤◌, ◌-◌, max}
-use mathlib.Core.Path.{◌≡◌}
+use Prim.Native.Nat.{◌+◌, ◌≤◌, max}
 use Rattle.fill.specs.Inner.{parts_on}
 use Rattle.fill.proofs.Floors.{RaisedTo}
 use Rattle.fill.proofs.floor.raise_by_line.Given as goal

@@ -11,8 +11,8 @@ loop-d-preserved c =
     let next : c.loop-d.d + 1 - 1 ≡ c.loop-d.d = omega arith in
     let tried = c.loop-d.invariant in
     rw next (elim c.if-marked.branch [
-      then-marked w ↦ rw w.floor-is (lined_marked _ _ _ _ _ _ _ (omega arith) tried c.marked.ensures w.if-marked.true w.raise_by_line.ensures)
-    | else-marked w ↦ rw w.floor-is (lined_unmarked _ _ _ _ _ _ _ (omega arith) tried c.marked.ensures w.if-marked.false)
+      | then-marked w ↦ rw w.floor-is (lined_marked _ _ _ _ _ _ _ (omega arith) tried c.marked.ensures w.if-marked.true w.raise_by_line.ensures)
+      | else-marked w ↦ rw w.floor-is (lined_unmarked _ _ _ _ _ _ _ (omega arith) tried c.marked.ensures w.if-marked.false)
     ])
 
 pub returns : goal.returns

@@ -1,5 +1,5 @@
 use mathlib.Core.Path.{ap, ◌∙◌}
-use Prim.Native.Nat.{ℕ, max}
+use Prim.Native.Nat.{max}
 use native.Mathlib.Omega.{arith}
 use Rattle.fill.proofs.Floors.{piece_low, piece_high}
 use Rattle.fill.proofs.floor.raise_by_piece.Goals as goal

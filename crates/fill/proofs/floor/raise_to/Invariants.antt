@@ -1,5 +1,4 @@
-use Prim.Native.Nat.{◌+◌, ◌≤◌, ◌-◌, max}
-use mathlib.Core.Path.{◌≡◌}
+use Prim.Native.Nat.{◌+◌, ◌≤◌, max}
 use Rattle.fill.proofs.Floors.{RaisedTo}
 use Rattle.fill.proofs.floor.raise_to.Given as goal
 

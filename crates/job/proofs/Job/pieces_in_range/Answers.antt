@@ -7,6 +7,6 @@ use Rattle.job.proofs.Job.pieces_in_range.Goals as goal
 -- `Job::pieces_in_range` meets its contract.
 pub returns : goal.returns
 returns c =
-    all_pieces c.args.self (search rules)
+    all_pieces c.args.self.now (search rules)
     (cases_from_all _ _ _ (λ p. piece_in_range p ≡ true) (λ p. piece_in_range p ≡ false) c.all.ensures.ran
     (YieldsList-from_slice _ (c.iter.ensures.rest ∙ c.pieces.ensures.records)) (λ x q k. search rules) (λ x q k. search rules))

@@ -18,7 +18,6 @@ module _ {pieces : List Piece} {q : Section} (may : MayList pieces q) where
   may_read =
       let area : q.width * q.height ≤ side_max * side_max = mul-le-mul may.inside.width_most may.inside.height_most in
       record {
-        few = may.few;
         range = may.range;
         wide = may.inside.width_least;
         high = may.inside.height_least;

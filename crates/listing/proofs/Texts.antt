@@ -9,14 +9,14 @@ use Rattle.std.proofs.lemmas.Option.{none-some, same_Some}
 use Rattle.cutting.specs.Piece.{Piece}
 use Rattle.cutting.specs.Dissection.{rest, crossed, part_width, part_height}
 use Rattle.cutting.specs.Tree.{Tree, Valid, earning}
-use Rattle.fields.specs.Format.{node_length, letter_p, letter_s}
+use Rattle.fields.specs.Format.{node_length}
 use Rattle.nodes.specs.Encoding.{letter_of, encode}
 use Rattle.nodes.specs.Reads.{frame, Found, tally_of}
 use Rattle.nodes.specs.Inner.{Written, node_at, part_at, reading, read_of}
 use Rattle.nodes.specs.declared.Node.{Node}
 use Rattle.nodes.specs.declared.Reading.{Reading}
 use Rattle.nodes.proofs.Encoding.{found_first, found_second, valid_written}
-use Rattle.nodes.proofs.Exactly.{line_read, piece_read, scrap_read, leaf_place, parts_found, complete}
+use Rattle.nodes.proofs.Exactly.{line_read, piece_read, scrap_read, parts_found, complete}
 use Rattle.printing.specs.Inner.{Writes}
 use Rattle.printing.specs.declared.Text.{Text}
 use Rattle.printing.proofs.Printed.{writes_both, writes_as}
@@ -31,16 +31,17 @@ pub data Starts (pieces : List Piece) (s : List ℕ) (q : Section) (next : ℕ) 
       → Stands pieces s (below_of q tall c (q.at + node_length)) near middle
       → Stands pieces s (below_of q tall (rest (crossed tall q.width q.height) c) middle) far next
       → Starts pieces s q next (Tree.line tall c near far) (Some (Node.Line tall c))
-  piece : {k : ℕ} → q.at + node_length ≡ next → Starts pieces s q next (Tree.piece_p k) (Some (Node.Piece k))
-  scrap : q.at + node_length ≡ next → Starts pieces s q next Tree.scrap_s (Some Node.Scrap)
+  piece : {k : ℕ} → Starts pieces s q next (Tree.piece_p k) (Some (Node.Piece k))
+  scrap : Starts pieces s q next Tree.scrap_s (Some Node.Scrap)
 
 module _ (pieces : List Piece) (s : List ℕ) where
   abbrev found : Section → Option Node
   found q = node_at pieces s (frame q.at q.width q.height)
 
   -- The near part of a line, by the code's numbers.
-  one_listed : (q : Section) (tall : Bool) {near : Section} {c side : ℕ} {u v : Text} {first : Option ℕ} → side ≡ c → near ≡ below_of q tall side (q.at + node_length)
-      → ListsThere pieces s near u first v → {a : Tree} {there : ℕ} → Stands pieces s (below_of q tall c (q.at + node_length)) a there
+  one_listed : (q : Section) (tall : Bool) {near : Section} {c side : ℕ} {u v : Text} {first : Option ℕ} → side ≡ c
+      → near ≡ below_of q tall side (q.at + node_length) → ListsThere pieces s near u first v → {a : Tree} {there : ℕ}
+      → Stands pieces s (below_of q tall c (q.at + node_length)) a there
       → PrintedAs pieces (below_of q tall c (q.at + node_length)) a there u first v
   one_listed q tall {u = u} {v = v} {first = first} i near_is lists {a} {there} x =
       subst (λ (f : Section). ListsThere pieces s f u first v) (near_is ∙ ap (λ (n : ℕ). below_of q tall n (q.at + node_length)) i) lists a there x
@@ -57,10 +58,9 @@ module _ (pieces : List Piece) (s : List ℕ) where
       (Starts.line (record { valid = v; found = found_first (encode near) (encode far) both })
       (record { valid = beyond; found = found_second (encode near) (encode far) both }))
   starts {x = x} {y = y} (Valid.piece_p {k = k} n) w at level next d =
-      subst (Starts pieces s (section at level x y) next (Tree.piece_p k)) (sym (piece_read pieces s at x y w n d))
-      (Starts.piece (leaf_place pieces s letter_p k d))
+      subst (Starts pieces s (section at level x y) next (Tree.piece_p k)) (sym (piece_read pieces s at x y w n d)) Starts.piece
   starts {x = x} {y = y} Valid.scrap_s w at level next d =
-      subst (Starts pieces s (section at level x y) next Tree.scrap_s) (sym (scrap_read pieces s at x y d)) (Starts.scrap (leaf_place pieces s letter_s 0 d))
+      subst (Starts pieces s (section at level x y) next Tree.scrap_s) (sym (scrap_read pieces s at x y d)) Starts.scrap
 
   module _ {q : Section} (may : MayList pieces q) where
     written : {tree : Tree} {next : ℕ} → Stands pieces s q tree next → Written tree
@@ -99,7 +99,7 @@ module _ (pieces : List Piece) (s : List ℕ) where
         where
           go : {d : Tree} → Starts pieces s q next d (Some (Node.Piece k)) → r.at ≡ next → r.leaves.value ≡ earning pieces d
               → PrintedAs pieces q d next t (Some r.at) u
-          go (Starts.piece i) h j = record { place = ap Some h; text = writes_as (ap (λ (v : ℕ). own_line q v Kind.Piece k) j) w }
+          go Starts.piece h j = record { place = ap Some h; text = writes_as (ap (λ (v : ℕ). own_line q v Kind.Piece k) j) w }
 
       pub lists_scrap : {u : Text} → found q ≡ Some Node.Scrap → Writes t (node_text q r.leaves.value Node.Scrap) u
           → ListsThere pieces s q t (Some r.at) u
@@ -108,7 +108,7 @@ module _ (pieces : List Piece) (s : List ℕ) where
         where
           go : {d : Tree} → Starts pieces s q next d (Some Node.Scrap) → r.at ≡ next → r.leaves.value ≡ earning pieces d
               → PrintedAs pieces q d next t (Some r.at) u
-          go (Starts.scrap i) h j = record { place = ap Some h; text = writes_as (ap (λ (v : ℕ). own_line q v Kind.Scrap 0) j) w }
+          go Starts.scrap h j = record { place = ap Some h; text = writes_as (ap (λ (v : ℕ). own_line q v Kind.Scrap 0) j) w }
 
       -- A line's listing is its own line and those of its two parts, by the code's numbers.
       module _ {tall : Bool} {c side : ℕ} {u v : Text} {near : Section} {first : Option ℕ} (g : found q ≡ Some (Node.Line tall c))

@@ -39,7 +39,7 @@ fn put_number(text: &mut Text, n: usize, end: u8)
     ensures { Writes text.old (decimal n ++ (end ∷ [])) text.new }
 {
     text.put_decimal(n);
-    text.put_byte(end)
+    text.put_byte(end);
 }
 
 // Writes the line of a node.
@@ -51,7 +51,7 @@ pub(crate) fn put_line(text: &mut Text, section: Section, earning: usize, kind: 
     put_number(text, section.height, b' ');
     put_number(text, earning, b' ');
     text.put_word(kind.word());
-    put_number(text, usize::from(number), b'\n')
+    put_number(text, usize::from(number), b'\n');
 }
 
 // Writes the first line.
@@ -61,7 +61,7 @@ pub fn put_head(text: &mut Text, value: usize, worked: usize)
     text.put_word(b"value ");
     put_number(text, value, b' ');
     text.put_word(b"worked ");
-    put_number(text, worked, b'\n')
+    put_number(text, worked, b'\n');
 }
 
 // Writes the line of a refusal.
@@ -69,5 +69,5 @@ pub fn put_refused(text: &mut Text, number: usize)
     ensures { Writes text.old (refused_text number) text.new }
 {
     text.put_word(b"refused ");
-    put_number(text, number, b'\n')
+    put_number(text, number, b'\n');
 }

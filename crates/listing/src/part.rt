@@ -1,6 +1,6 @@
 // The lines of a part, node by node from where its nodes start.
 ghost use Rattle.std.specs.Prelude.{◌≡◌, ◌≤◌};
-ghost use Rattle.board.specs.Inner.{pieces_on};
+ghost use Rattle.nodes.specs.Inner.{pieces_in};
 ghost use Rattle.printing.specs.Inner.{Writes};
 ghost use Rattle.listing.specs.Inner.{level_most, below_of, node_text, MayList, ListsThere};
 
@@ -41,8 +41,8 @@ fn put_node(text: &mut Text, section: Section, earning: usize, node: Node)
 // The lines of a part, and the place behind its nodes; or none, where a rule is broken. What a part earns is read before its first
 // line is printed.
 pub fn list(nodes: &Nodes, section: Section, text: &mut Text) -> Option<usize>
-    requires { MayList (pieces_on nodes.now.board.now) section }
-    ensures { ListsThere (pieces_on nodes.now.board.now) nodes.now.bytes.now section text.old result text.new }
+    requires { MayList (pieces_in nodes.now) section }
+    ensures { ListsThere (pieces_in nodes.now) nodes.now.bytes.now section text.old result text.new }
 {
     let node = nodes.node_at(section.at, section.width, section.height)?;
     let read = nodes.read(section.at, section.width, section.height)?;

@@ -81,7 +81,8 @@ module _ (pieces : List Piece) (s : List ℕ) where
     abbrev both : Part → Part
     both p = then_read p (λ k. part (far_part whole tall c k))
 
-    pub near_broken : {after : Reading} → ReadsTo before.leaves middle None (part (frame before.at u v)) → ReadsTo before.leaves after None (both_parts part whole tall c)
+    pub near_broken : {after : Reading} → ReadsTo before.leaves middle None (part (frame before.at u v))
+        → ReadsTo before.leaves after None (both_parts part whole tall c)
     unfolding both_parts then_read
     near_broken {after} first = go (part nearer) (part_answers before.at near first)
       where
@@ -89,7 +90,8 @@ module _ (pieces : List Piece) (s : List ℕ) where
         go (Part.Read next t) (ReadsTo.read g h) = absurd (none-some tt g)
         go Part.Broken h = ReadsTo.broken refl
 
-    module _ (first : ReadsTo before.leaves middle (Some tt) (part (frame before.at u v))) {w h : ℕ} (far : PartIs x y tall (rest (crossed tall x y) c) w h) where
+    module _ (first : ReadsTo before.leaves middle (Some tt) (part (frame before.at u v))) {w h : ℕ}
+        (far : PartIs x y tall (rest (crossed tall x y) c) w h) where
       abbrev done : WasRead (part nearer) before.leaves middle
       done = was_read (part nearer) (part_answers before.at near first)
 

@@ -13,7 +13,8 @@ module _ (board : Board) where
   unfolding pieces_on
   entries-length = by_index-length _ (count_on board)
 
-  entry_at : {k : ℕ} → 1 ≤ k → k ≤ count_on board → piece_at (pieces_on board) k ≡ sized (width_at board (k - 1)) (height_at board (k - 1)) (value_at board (k - 1))
+  entry_at : {k : ℕ} → 1 ≤ k → k ≤ count_on board
+      → piece_at (pieces_on board) k ≡ sized (width_at board (k - 1)) (height_at board (k - 1)) (value_at board (k - 1))
   unfolding pieces_on piece_at
   entry_at {k} h l = by_index_at _ (count_on board) (k - 1) no_piece (omega arith)
 

@@ -25,7 +25,8 @@ use Rattle.nodes.proofs.Own.{part_by_lem, part_line}
 use Rattle.nodes.proofs.Encoding.{found_both, found_first, found_second, stands_found, node-length, node_stands, line-length, valid_written, same_encoding}
 
 -- What a piece's leaf adds is what its tree adds up to.
-piece_tally_lem : (pieces : List Piece) (k x y v : ℕ) → Numbered pieces k x y v → piece_tally (piece_at pieces k).value x y ≡ tally_of pieces (Tree.piece_p k) x y
+piece_tally_lem : (pieces : List Piece) (k x y v : ℕ) → Numbered pieces k x y v
+    → piece_tally (piece_at pieces k).value x y ≡ tally_of pieces (Tree.piece_p k) x y
 unfolding tally_of earning piece_area_of scrap_area_of
 piece_tally_lem pieces k x y v n = ap (λ (a : ℕ). record { value = (piece_at pieces k).value; pieces = a; scrap = 0 }) (sym (ap₂ ◌*◌ n.width n.height))
 

@@ -5,11 +5,13 @@ use Rattle.cutting.specs.Limits.{value_max}
 use Rattle.cutting.specs.Piece.{Piece, piece_at, Lays, InRange}
 use Rattle.cutting.specs.Dissection.{rest, crossed, part_width, part_height, Line}
 use Rattle.cutting.specs.Tree.{Tree}
+use Rattle.board.specs.Inner.{pieces_on}
 use Rattle.fields.specs.Number.{number2_of}
 use Rattle.fields.specs.Format.{letter_v, letter_h, letter_p, letter_s, node_length}
 use Rattle.nodes.specs.Reads.{Frame, frame}
 use Rattle.nodes.specs.declared.Tally.{Tally}
 use Rattle.nodes.specs.declared.Node.{Node}
+use Rattle.nodes.specs.declared.Nodes.{Nodes}
 use Rattle.nodes.specs.declared.Reading.{Reading}
 
 -- Each number of the tree has its two bytes.
@@ -117,6 +119,13 @@ part_at pieces s = deep around Part.Broken (λ read f. part_by pieces read f (no
 
 abbrev pub both_at : List Piece → List ℕ → ℕ → ℕ → ℕ → Bool → ℕ → Part
 both_at pieces s at x y tall c = both_parts (part_at pieces s) (frame at x y) tall c
+
+-- The same of a plan file's nodes.
+abbrev pub pieces_in : Nodes → List Piece
+pieces_in nodes = pieces_on nodes.board.now
+
+abbrev pub part_in : Nodes → ℕ → ℕ → ℕ → Part
+part_in nodes at x y = part_at (pieces_in nodes) nodes.bytes.now (frame at x y)
 
 -- How far the reader has come.
 

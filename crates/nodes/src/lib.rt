@@ -1,19 +1,20 @@
 // The nodes of a plan file: one node judged by the rules for its part, and the part reader and the line reader, which call each other.
-// A stranger's file chooses how deep they go, so that a level carries plain numbers alone. rule.rt: the rule of each letter.
+// rule.rt: the rule of each letter. A stranger's file chooses how deep they go: a level hands on plain numbers, since a struct would be
+// copied for each (64 bytes of stack a level).
 #![tactic(auto)]
 
 ghost use Rattle.std.specs.Prelude.{◌≡◌, ◌+◌, ◌*◌, ◌^◌, ◌<◌};
 ghost use Rattle.cutting.specs.Piece.{piece_at, Numbered};
-ghost use Rattle.board.specs.Inner.{pieces_on};
 ghost use Rattle.fields.specs.Format.{node_length};
 ghost use Rattle.nodes.specs.Reads.{frame};
-ghost use Rattle.nodes.specs.Inner.{node_at, piece_tally, part_at, both_at, tally_both, no_leaves, reading, read_of, behind_leaf, ReadsTo, RoomFor, MayRead, MayReadLine};
+ghost use Rattle.nodes.specs.Inner.{node_at, piece_tally, both_at, tally_both, no_leaves, read_of, behind_leaf, pieces_in, part_in, ReadsTo, RoomFor, MayRead, MayReadLine};
 
 use board::Board;
 use board::line::{crossed, part_height, part_width, rest};
 use fields::Field;
 use fields::format::NODE_LENGTH;
 use rule::by_letter;
+use std::ops::AddAssign;
 
 mod rule;
 
@@ -54,11 +55,12 @@ fn area(width: usize, height: usize) -> u32
     (width * height) as u32
 }
 
-impl Tally {
-    fn add(&mut self, leaf: Tally)
-        requires { RoomFor self.old leaf }
-        ensures { self.new ≡ tally_both self.old leaf }
-    {
+impl AddAssign for Tally {
+    ghost can_add_assign = { RoomFor };
+
+    ghost add_assign_gives = { λ before leaf after. after ≡ tally_both before leaf };
+
+    fn add_assign(&mut self, leaf: Tally) {
         self.value += leaf.value;
         self.pieces += leaf.pieces;
         self.scrap += leaf.scrap;
@@ -73,14 +75,14 @@ impl Reading {
         ensures { self.new ≡ behind_leaf self.old leaf }
     {
         self.at += NODE_LENGTH;
-        self.leaves.add(leaf);
+        self.leaves += leaf;
     }
 }
 
 impl Nodes<'_> {
     // The node that a part of this width and height starts with; or none, where a rule is broken.
     pub fn node_at(&self, at: usize, width: usize, height: usize) -> Option<Node>
-        ensures { result ≡ node_at (pieces_on self.now.board.now) self.now.bytes.now (frame at width height) }
+        ensures { result ≡ node_at (pieces_in self.now) self.now.bytes.now (frame at width height) }
     {
         if self.bytes.len() < NODE_LENGTH {
             return None;
@@ -99,9 +101,9 @@ impl Nodes<'_> {
 
     // What a piece's leaf adds, by the piece's number.
     fn piece_leaf(&self, number: u16, width: usize, height: usize) -> Tally
-        requires numbered { Numbered (pieces_on self.now.board.now) number width height (piece_at (pieces_on self.now.board.now) number).value }
+        requires numbered { Numbered (pieces_in self.now) number width height (piece_at (pieces_in self.now) number).value }
         requires room { width * height < 2 ^ 32 }
-        ensures { result ≡ piece_tally (piece_at (pieces_on self.now.board.now) number).value width height }
+        ensures { result ≡ piece_tally (piece_at (pieces_in self.now) number).value width height }
     {
         Tally {
             value: u32::from(self.board.piece(usize::from(number) - 1).value),
@@ -112,8 +114,8 @@ impl Nodes<'_> {
 
     // Reads a part from its first node on: where its nodes end, and its leaves; or none, where a rule is broken.
     pub fn read(&self, at: usize, width: usize, height: usize) -> Option<Reading>
-        requires { MayRead (pieces_on self.now.board.now) width height no_leaves }
-        ensures { result ≡ read_of (part_at (pieces_on self.now.board.now) self.now.bytes.now (frame at width height)) }
+        requires { MayRead (pieces_in self.now) width height no_leaves }
+        ensures { result ≡ read_of (part_in self.now at width height) }
     {
         let mut reading = Reading {
             at,
@@ -126,8 +128,8 @@ impl Nodes<'_> {
     // Reads on over a part: a leaf by itself, a line with its two parts; or none, where a rule is broken.
     #[cycle(read_line_read_part)]
     pub fn read_part(&self, reading: &mut Reading, width: usize, height: usize) -> Option<()>
-        requires { MayRead (pieces_on self.now.board.now) width height reading.old.leaves }
-        ensures { ReadsTo reading.old.leaves reading.new result (part_at (pieces_on self.now.board.now) self.now.bytes.now (frame reading.old.at width height)) }
+        requires { MayRead (pieces_in self.now) width height reading.old.leaves }
+        ensures { ReadsTo reading.old.leaves reading.new result (part_in self.now reading.old.at width height) }
     {
         let node = self.node_at(reading.at, width, height)?;
         match node {
@@ -160,8 +162,8 @@ impl Nodes<'_> {
         tall: bool,
         c: u16,
     ) -> Option<()>
-        requires { MayReadLine (pieces_on self.now.board.now) width height tall c reading.old.leaves }
-        ensures { ReadsTo reading.old.leaves reading.new result (both_at (pieces_on self.now.board.now) self.now.bytes.now reading.old.at width height tall c) }
+        requires { MayReadLine (pieces_in self.now) width height tall c reading.old.leaves }
+        ensures { ReadsTo reading.old.leaves reading.new result (both_at (pieces_in self.now) self.now.bytes.now reading.old.at width height tall c) }
     {
         let near = usize::from(c);
         self.read_part(

@@ -25,11 +25,10 @@ impl<'a> Text<'a> {
     pub fn put_byte(&mut self, byte: u8)
         ensures { Writes self.old (byte ∷ []) self.new }
     {
-        if self.at >= self.row.len() {
-            return;
+        if self.at < self.row.len() {
+            self.row[self.at] = byte;
+            self.at += 1;
         }
-        self.row[self.at] = byte;
-        self.at += 1;
     }
 
     // Writes a word.
@@ -49,13 +48,14 @@ impl<'a> Text<'a> {
             return self.put_byte(digit(n));
         }
         self.put_decimal(n / 10);
-        self.put_byte(digit(n % 10))
+        self.put_byte(digit(n % 10));
     }
 }
 
+#[tactic(auto, unfolding(crate::specs::Decimal::digit))]
 fn digit(n: usize) -> u8
     requires { n < 10 }
     ensures { result ≡ digit n }
 {
-    (48 + n) as u8
+    b'0' + n as u8
 }

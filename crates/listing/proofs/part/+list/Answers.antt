@@ -2,16 +2,12 @@ use mathlib.Core.Path.{sym, ap, ◌∙◌}
 use mathlib.Core.Logic.{⊎_elim}
 use native.Mathlib.Omega.{arith}
 use Rattle.std.specs.Prelude.{Some}
-use Rattle.nodes.proofs.Entries.{few_on}
 use Rattle.nodes.proofs.Rules.{node_tells}
 use Rattle.printing.proofs.Printed.{writes_as}
 use Rattle.listing.specs.Inner.{node_text}
 use Rattle.listing.proofs.Parts.{near_may, far_may}
 use Rattle.listing.proofs.Texts.{lists_none, lists_unread, lists_piece, lists_scrap, lists_line, lists_near_none}
 use Rattle.listing.proofs.part.+list.Goals as goal
-
-pub node_at-requires : goal.node_at-requires
-node_at-requires t c = few_on _ c.requires.few
 
 pub returns-in_err-node : goal.returns-in_err-node
 returns-in_err-node t c = lists_none _ _ c.requires (sym c.in_err-node.ensures)

@@ -7,7 +7,6 @@ ghost use Rattle.cells.specs.Cells.{cell_of};
 ghost use Rattle.board.specs.Inner.{board_of};
 ghost use Rattle.laws.specs.Inner.{Wrote};
 ghost use Rattle.fields.specs.Format.{sum_field, sum_length, file_most};
-ghost use Rattle.tracer.specs.Inner.{whole as whole_of};
 ghost use Rattle.plan.specs.Inner.{plan_file, Ready};
 
 use crate::Written;
@@ -15,7 +14,7 @@ use fields::format::{NODES_FIELD, SUM_FIELD, SUM_LENGTH, VALUE_FIELD};
 use fields::{Field, sum_of};
 use job::Job;
 use job::block::{block_length, put_block};
-use tracer::part::Part;
+use tracer::Wanted;
 use tracer::table::Table;
 use tracer::walk::write;
 
@@ -39,24 +38,17 @@ fn put_sum(o: &mut [u8], at: usize) -> usize
     at + SUM_LENGTH
 }
 
-// Writes the file of the whole of x by y, and answers its length and the number in its cell.
-pub fn write_file(job: &Job, table: &Table, whole: Part, o: &mut [u8]) -> Written
-    requires ready { Ready job.now table.now.cells.now whole.width whole.height o.old }
-    requires is_whole { whole ≡ whole_of whole.width whole.height }
+// Writes the file of x by y, and answers its length and the number in its cell.
+pub fn write_file(job: &Job, table: &Table, x: u32, y: u32, o: &mut [u8]) -> Written
+    requires ready { Ready job.now table.now.cells.now x y o.old }
     requires laid { table.now.board.now ≡ board_of job.now }
-    ensures file { Wrote o.old 0 (plan_file job.now table.now.cells.now whole.width whole.height) result.length o.new }
-    ensures value { result.value ≡ cell_of job.now.width table.now.cells.now whole.width whole.height }
+    ensures file { Wrote o.old 0 (plan_file job.now table.now.cells.now x y) result.length o.new }
+    ensures value { result.value ≡ cell_of job.now.width table.now.cells.now x y }
 {
-    let x = usize::from(whole.width);
-    let value = cells::cell(
-        table.cells,
-        usize::from(job.width),
-        x,
-        usize::from(whole.height),
-    );
+    let value = cells::cell(table.cells, usize::from(job.width), x as usize, y as usize);
     let nodes_at = block_length(usize::from(job.count));
-    put_block(o, whole.width, whole.height, job);
-    let at = write(table, whole, o, nodes_at);
+    put_block(o, x as u16, y as u16, job);
+    let at = write(table, x as usize, y as usize, Wanted::Free, o, nodes_at);
     put_pointers(o, at, at - nodes_at, value);
     let length = put_sum(o, at + SUM_FIELD) as u32;
     Written { length, value }

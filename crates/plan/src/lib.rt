@@ -9,7 +9,7 @@ ghost use Rattle.plan.specs.Inner.{PlanPromise};
 use board::Board;
 use job::Job;
 use refusals::Refusal;
-use tracer::part::{Part, Wanted};
+use tracer::Wanted;
 use tracer::table::Table;
 use tracer::walk::measure;
 
@@ -33,12 +33,7 @@ pub fn plan(job: Job, t: &[u32], x: u32, y: u32, o: &mut [u8]) -> Result<Written
         board: &board,
         cells: t,
     };
-    let whole = Part {
-        width: x as u16,
-        height: y as u16,
-        wanted: Wanted::Free,
-    };
-    let nodes = measure(&table, whole).ok_or(Refusal::AlienTable)?;
+    let nodes = measure(&table, x as usize, y as usize, Wanted::Free).ok_or(Refusal::AlienTable)?;
     refusal::of_room(job.count, nodes, o.len())?;
-    Ok(file::write_file(&job, &table, whole, o))
+    Ok(file::write_file(&job, &table, x, y, o))
 }

@@ -18,7 +18,8 @@ fn main(rt: HostRuntime) -> io::Result<()> {
     rt.stdout().write_all(&text[..length])
 }
 
-// Reads until the row is full or the input ends, and answers how many bytes stand at its start.
+// Reads until the row is full or the input ends, and answers how many bytes stand at its start. Kept: `read_exact` refuses a short
+// input, `read_to_end` takes a heap.
 fn read_full(from: &mut impl Read, row: &mut [u8]) -> io::Result<usize>
     ensures { IfOk result (λ n. n ≤ length row.new) }
 {

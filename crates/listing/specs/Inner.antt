@@ -1,17 +1,17 @@
 -- What only contracts inside and proofs need.
-use Rattle.std.specs.Prelude.{ℕ, ◌+◌, ◌≤◌, Bool, ◌≡◌, List, [], length}
+use Rattle.std.specs.Prelude.{ℕ, ◌+◌, ◌≤◌, Bool, ◌≡◌, List, Option, Some, length}
 use Rattle.cutting.specs.Limits.{side_max}
 use Rattle.cutting.specs.Piece.{Piece, Lays, InRange, Inside}
 use Rattle.cutting.specs.Dissection.{part_width, part_height}
-use Rattle.cutting.specs.Tree.{Tree, Valid, earning}
+use Rattle.cutting.specs.Tree.{Tree, Valid}
 use Rattle.board.specs.Inner.{entries}
 use Rattle.nodes.specs.Encoding.{encode}
 use Rattle.nodes.specs.Reads.{Found}
 use Rattle.nodes.specs.declared.Node.{Node}
-use Rattle.printing.specs.Inner.{Printed}
+use Rattle.printing.specs.Inner.{Writes}
+use Rattle.printing.specs.declared.Text.{Text}
 use Rattle.listing.specs.Line.{line_text}
 use Rattle.listing.specs.Listing.{kind_of, listing}
-use Rattle.listing.specs.declared.Ends.{Ends}
 use Rattle.listing.specs.declared.Kind.{Kind}
 use Rattle.listing.specs.declared.Section.{Section}
 
@@ -22,7 +22,7 @@ section at level x y = record { at = at; level = level; width = x; height = y }
 abbrev pub below_of : Section → Bool → ℕ → ℕ → Section
 below_of q tall side at = section at (q.level + 1) (part_width tall q.width side) (part_height tall q.height side)
 
--- The line of a node; none where a rule is broken.
+-- The line of a node.
 abbrev pub own_line : Section → ℕ → Kind → ℕ → List ℕ
 own_line q e kind number = line_text q.level q.width q.height e kind number
 
@@ -30,7 +30,6 @@ unfoldable pub node_text : Section → ℕ → Node → List ℕ
 node_text q e (Node.Line tall c) = own_line q e (kind_of tall) c
 node_text q e (Node.Piece k) = own_line q e Kind.Piece k
 node_text q e Node.Scrap = own_line q e Kind.Scrap 0
-node_text q e Node.Broken = []
 
 -- Each level below the root shortens a side.
 abbrev pub level_most : ℕ
@@ -48,13 +47,10 @@ pub record Stands (pieces : List Piece) (s : List ℕ) (q : Section) (tree : Tre
   pub valid : Valid pieces tree q.width q.height
   pub found : Found s q.at (encode tree) next
 
--- What is answered for the tree whose nodes stand there: its earning; and where its nodes end, with its listing printed.
-abbrev pub EarnsThere : List Piece → List ℕ → Section → ℕ → Type 0
-EarnsThere pieces s q r = (tree : Tree) (next : ℕ) → Stands pieces s q tree next → r ≡ earning pieces tree
+-- What is answered for the tree whose nodes stand there: where they end, with its listing printed.
+pub record PrintedAs (pieces : List Piece) (q : Section) (tree : Tree) (next : ℕ) (t : Text) (r : Option ℕ) (u : Text) : Type 0 where
+  pub place : r ≡ Some next
+  pub text : Writes t (listing pieces q.level tree q.width q.height) u
 
-pub record PrintedAs (pieces : List Piece) (q : Section) (tree : Tree) (next : ℕ) (o : List ℕ) (to : ℕ) (r : Ends) (p : List ℕ) : Type 0 where
-  pub node : r.node ≡ next
-  pub text : Printed o to (listing pieces q.level tree q.width q.height) r.text p
-
-abbrev pub ListsThere : List Piece → List ℕ → Section → List ℕ → ℕ → Ends → List ℕ → Type 0
-ListsThere pieces s q o to r p = (tree : Tree) (next : ℕ) → Stands pieces s q tree next → PrintedAs pieces q tree next o to r p
+abbrev pub ListsThere : List Piece → List ℕ → Section → Text → Option ℕ → Text → Type 0
+ListsThere pieces s q t r u = (tree : Tree) (next : ℕ) → Stands pieces s q tree next → PrintedAs pieces q tree next t r u

@@ -6,7 +6,7 @@ pub mod line;
 pub mod part;
 
 // What a node is.
-#[derive(Drop)]
+#[derive(Clone, Copy, Debug, PartialEq, Eq)]
 pub enum Kind {
     Vertical,
     Horizontal,
@@ -15,17 +15,10 @@ pub enum Kind {
 }
 
 // A part to be listed: where its nodes start, its level and its sides.
-#[derive(Clone, Copy)]
+#[derive(Clone, Copy, Debug, PartialEq, Eq)]
 pub struct Section {
     pub at: usize,
     pub level: usize,
     pub width: usize,
     pub height: usize,
-}
-
-// Where the nodes of a part end, and where its text ends.
-#[derive(Drop)]
-pub struct Ends {
-    pub node: usize,
-    pub text: usize,
 }

@@ -1,68 +1,73 @@
 // The lines that the program prints.
-ghost use Rattle.printing.specs.Inner.{Printed};
-ghost use Rattle.listing.specs.Line.{word_of, spaced, ended, line_text, head_text, refused_text};
+ghost use Rattle.std.specs.Prelude.{◌≡◌, [], ◌∷◌, ◌++◌};
+ghost use Rattle.printing.specs.Decimal.{decimal};
+ghost use Rattle.printing.specs.Inner.{Writes};
+ghost use Rattle.listing.specs.Listing.{kind_of};
+ghost use Rattle.listing.specs.Line.{word_of, line_text, head_text, refused_text};
 
 use crate::{Kind, Section};
-use printing::{put_byte, put_decimal, put_word};
+use printing::Text;
 
-fn put_spaced(o: &mut [u8], at: usize, n: usize) -> usize
-    ensures { Printed o.old at (spaced n) result o.new }
-{
-    let next = put_decimal(o, at, n);
-    put_byte(o, next, b' ')
-}
+impl Kind {
+    // The kind of a line.
+    pub(crate) fn of_line(tall: bool) -> Kind
+        ensures { result ≡ kind_of tall }
+    {
+        if tall {
+            Kind::Horizontal
+        } else {
+            Kind::Vertical
+        }
+    }
 
-fn put_ended(o: &mut [u8], at: usize, n: usize) -> usize
-    ensures { Printed o.old at (ended n) result o.new }
-{
-    let next = put_decimal(o, at, n);
-    put_byte(o, next, b'\n')
-}
-
-fn put_kind(o: &mut [u8], at: usize, kind: Kind) -> usize
-    ensures { Printed o.old at (word_of kind) result o.new }
-{
-    match kind {
-        Kind::Vertical => put_word(o, at, b"VERTICAL "),
-        Kind::Horizontal => put_word(o, at, b"HORIZONTAL "),
-        Kind::Piece => put_word(o, at, b"PIECE "),
-        Kind::Scrap => put_word(o, at, b"SCRAP "),
+    // Its word, and a space.
+    #[tactic(auto, unfolding(crate::specs::Line::word_of))]
+    fn word(self) -> &'static [u8]
+        ensures { result.now ≡ word_of self }
+    {
+        match self {
+            Kind::Vertical => b"VERTICAL ",
+            Kind::Horizontal => b"HORIZONTAL ",
+            Kind::Piece => b"PIECE ",
+            Kind::Scrap => b"SCRAP ",
+        }
     }
 }
 
-// Writes the line of a node.
-pub(crate) fn put_line(
-    o: &mut [u8],
-    at: usize,
-    section: Section,
-    earning: usize,
-    kind: Kind,
-    number: usize,
-) -> usize
-    ensures { Printed o.old at (line_text section.level section.width section.height earning kind number) result o.new }
+// Writes a number and the byte behind it.
+fn put_number(text: &mut Text, n: usize, end: u8)
+    ensures { Writes text.old (decimal n ++ (end ∷ [])) text.new }
 {
-    let first = put_spaced(o, at, section.level);
-    let second = put_spaced(o, first, section.width);
-    let third = put_spaced(o, second, section.height);
-    let fourth = put_spaced(o, third, earning);
-    let fifth = put_kind(o, fourth, kind);
-    put_ended(o, fifth, number)
+    text.put_decimal(n);
+    text.put_byte(end);
+}
+
+// Writes the line of a node.
+pub(crate) fn put_line(text: &mut Text, section: Section, earning: usize, kind: Kind, number: u16)
+    ensures { Writes text.old (line_text section.level section.width section.height earning kind number) text.new }
+{
+    put_number(text, section.level, b' ');
+    put_number(text, section.width, b' ');
+    put_number(text, section.height, b' ');
+    put_number(text, earning, b' ');
+    text.put_word(kind.word());
+    put_number(text, usize::from(number), b'\n');
 }
 
 // Writes the first line.
-pub fn put_head(o: &mut [u8], at: usize, value: usize, worked: usize) -> usize
-    ensures { Printed o.old at (head_text value worked) result o.new }
+pub fn put_head(text: &mut Text, value: usize, worked: usize)
+    ensures { Writes text.old (head_text value worked) text.new }
 {
-    let first = put_word(o, at, b"value ");
-    let second = put_spaced(o, first, value);
-    let third = put_word(o, second, b"worked ");
-    put_ended(o, third, worked)
+    text.put_word(b"value ");
+    put_number(text, value, b' ');
+    text.put_word(b"worked ");
+    put_number(text, worked, b'\n');
 }
 
 // Writes the line of a refusal.
-pub fn put_refused(o: &mut [u8], at: usize, number: usize) -> usize
-    ensures { Printed o.old at (refused_text number) result o.new }
+pub fn put_refused(text: &mut Text, number: usize)
+    ensures { Writes text.old (refused_text number) text.new }
 {
-    let first = put_word(o, at, b"refused ");
-    put_ended(o, first, number)
+    text.put_word(b"refused ");
+    put_number(text, number, b'\n');
 }

@@ -1,22 +1,20 @@
 -- The pieces that stand on a board, by their numbers.
 use Prim.Native.Nat.{ℕ, ◌-◌, ◌≤◌}
 use mathlib.Core.Path.{◌≡◌, refl, sym, ap, ◌∙◌}
-use mathlib.Core.List.{List}
 use native.Mathlib.Omega.{arith}
 use lib.ListN.{length}
 use Rattle.laws.proofs.ByIndex.{by_index_at, by_index-length}
 use Rattle.cutting.specs.Piece.{Piece, sized, no_piece, piece_at, Numbered}
+use Rattle.board.specs.declared.Board.{Board}
 use Rattle.board.specs.Inner.{count_on, width_at, height_at, value_at, pieces_on}
 
-module _ (board : List ℕ) where
+module _ (board : Board) where
   pub entries-length : length (pieces_on board) ≡ count_on board
   unfolding pieces_on
   entries-length = by_index-length _ (count_on board)
 
-  pub few_on : {most : ℕ} → length (pieces_on board) ≤ most → count_on board ≤ most
-  few_on h = omega (arith, entries-length)
-
-  entry_at : {k : ℕ} → 1 ≤ k → k ≤ count_on board → piece_at (pieces_on board) k ≡ sized (width_at board (k - 1)) (height_at board (k - 1)) (value_at board (k - 1))
+  entry_at : {k : ℕ} → 1 ≤ k → k ≤ count_on board
+      → piece_at (pieces_on board) k ≡ sized (width_at board (k - 1)) (height_at board (k - 1)) (value_at board (k - 1))
   unfolding pieces_on piece_at
   entry_at {k} h l = by_index_at _ (count_on board) (k - 1) no_piece (omega arith)
 

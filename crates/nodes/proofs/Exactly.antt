@@ -7,6 +7,7 @@ use mathlib.Core.List.{List, ◌++◌, append-nil}
 use native.Mathlib.Omega.{arith}
 use lib.ListN.{length}
 use lib.Seq.{drop-length}
+use Rattle.std.specs.Prelude.{Option, Some, None}
 use Rattle.laws.proofs.Choice.{chosen}
 use Rattle.laws.proofs.Depth.{deep_keeps}
 use Rattle.cutting.specs.Piece.{Piece, piece_at, Numbered}
@@ -15,7 +16,8 @@ use Rattle.cutting.specs.Tree.{Tree, Valid, earning, piece_area_of, scrap_area_o
 use Rattle.fields.specs.Number.{Bytes}
 use Rattle.fields.specs.Format.{letter_p, letter_s, node_length}
 use Rattle.nodes.specs.Encoding.{letter_of, node, encode}
-use Rattle.nodes.specs.Reads.{Frame, frame, Tally, Found, tally_of, ReadAs}
+use Rattle.nodes.specs.Reads.{Frame, frame, Found, tally_of, ReadAs}
+use Rattle.nodes.specs.declared.Tally.{Tally}
 use Rattle.nodes.specs.Inner.{Written, Part, tally_both, piece_tally, scrap_tally, near_part, far_part, behind_node, with_first, then_read, both_parts, part_by, letter_node, node_at, part_at}
 use Rattle.nodes.specs.declared.Node.{Node}
 use Rattle.nodes.proofs.Rules.{is_inside_says, is_piece_says, on_line, on_P, on_S, node_whole, Tells, node_tells}
@@ -23,7 +25,8 @@ use Rattle.nodes.proofs.Own.{part_by_lem, part_line}
 use Rattle.nodes.proofs.Encoding.{found_both, found_first, found_second, stands_found, node-length, node_stands, line-length, valid_written, same_encoding}
 
 -- What a piece's leaf adds is what its tree adds up to.
-piece_tally_lem : (pieces : List Piece) (k x y v : ℕ) → Numbered pieces k x y v → piece_tally (piece_at pieces k).value x y ≡ tally_of pieces (Tree.piece_p k) x y
+piece_tally_lem : (pieces : List Piece) (k x y v : ℕ) → Numbered pieces k x y v
+    → piece_tally (piece_at pieces k).value x y ≡ tally_of pieces (Tree.piece_p k) x y
 unfolding tally_of earning piece_area_of scrap_area_of
 piece_tally_lem pieces k x y v n = ap (λ (a : ℕ). record { value = (piece_at pieces k).value; pieces = a; scrap = 0 }) (sym (ap₂ ◌*◌ n.width n.height))
 
@@ -41,7 +44,7 @@ module _ (pieces : List Piece) (s : List ℕ) where
   Held f Part.Broken = Unit {0}
 
   -- A line, from its two parts.
-  module _ (f : Frame) (tall : Bool) (c : ℕ) (tells : Tells pieces s f (Node.Line tall c)) where
+  module _ (f : Frame) (tall : Bool) (c : ℕ) (tells : Tells pieces s f (Some (Node.Line tall c))) where
     abbrev near : Frame
     near = near_part (behind_node f) tall c
 
@@ -69,10 +72,10 @@ module _ (pieces : List Piece) (s : List ℕ) where
     line_held second h (Part.Read m a) x = second_held x (second m) (h m)
     line_held second h Part.Broken x = tt
 
-  node_held : (R : Frame → Part) → ((g : Frame) → Held g (R g)) → (f : Frame) (n : Node) → Tells pieces s f n → Held f (part_by pieces R f n)
+  node_held : (R : Frame → Part) → ((g : Frame) → Held g (R g)) → (f : Frame) (n : Option Node) → Tells pieces s f n → Held f (part_by pieces R f n)
   unfolding part_by both_parts encode tally_of earning piece_area_of scrap_area_of
-  node_held R held f (Node.Line tall c) h = line_held f tall c h _ (λ m. held _) _ (held _)
-  node_held R held f (Node.Piece k) h =
+  node_held R held f (Some (Node.Line tall c)) h = line_held f tall c h _ (λ m. held _) _ (held _)
+  node_held R held f (Some (Node.Piece k)) h =
       record {
         tree = Tree.piece_p k;
         valid = Valid.piece_p h.1;
@@ -80,9 +83,9 @@ module _ (pieces : List Piece) (s : List ℕ) where
         found = λ r. stands_found r h.0;
         sums = piece_tally_lem pieces k f.width f.height _ h.1;
       }
-  node_held R held f Node.Scrap h =
+  node_held R held f (Some Node.Scrap) h =
       record { tree = Tree.scrap_s; valid = Valid.scrap_s; place = omega (arith, node-length letter_s 0); found = λ r. stands_found r h; sums = refl }
-  node_held R held f Node.Broken h = tt
+  node_held R held f None h = tt
 
   part_held : (f : Frame) → Held f (part_at pieces s f)
   unfolding part_at
@@ -105,19 +108,19 @@ module _ (pieces : List Piece) (s : List ℕ) where
 
   module _ (at x y : ℕ) {next : ℕ} where
     pub line_read : (tall : Bool) (c r : ℕ) → c < 65_536 → Line (crossed tall x y) c r → Found s at (node (letter_of tall) c) next
-        → node_at pieces s (frame at x y) ≡ Node.Line tall c
+        → node_at pieces s (frame at x y) ≡ Some (Node.Line tall c)
     line_read tall c r h l d =
         let line : Line (crossed tall x y) c (rest (crossed tall x y) c) = record { least = l.least; most = l.most; leaves = refl } in
         sym (on_line pieces _ c x y tall refl refl ∙ node_read (frame at x y) (letter_of tall) c next h d) ∙ chosen (is_inside_says _ c) _ _ line
 
     pub piece_read : {k v : ℕ} → k < 65_536 → Numbered pieces k x y v → Found s at (node letter_p k) next
-        → node_at pieces s (frame at x y) ≡ Node.Piece k
+        → node_at pieces s (frame at x y) ≡ Some (Node.Piece k)
     piece_read {k} h n d =
         let m : Numbered pieces k x y (piece_at pieces k).value =
         record { first = n.first; last = n.last; width = n.width; height = n.height; value = refl } in
         sym (on_P pieces _ k x y refl ∙ node_read (frame at x y) letter_p k next h d) ∙ chosen (is_piece_says pieces k x y) _ _ m
 
-    pub scrap_read : Found s at (node letter_s 0) next → node_at pieces s (frame at x y) ≡ Node.Scrap
+    pub scrap_read : Found s at (node letter_s 0) next → node_at pieces s (frame at x y) ≡ Some Node.Scrap
     scrap_read d = sym (on_S pieces _ 0 x y refl ∙ node_read (frame at x y) letter_s 0 next (omega arith) d)
 
   pub leaf_place : {at next : ℕ} (letter number : ℕ) → Found s at (node letter number) next → at + node_length ≡ next

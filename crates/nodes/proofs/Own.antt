@@ -4,11 +4,13 @@ use mathlib.Core.Bool.{Bool}
 use mathlib.Core.Path.{◌≡◌, refl, ap, ◌∙◌}
 use mathlib.Core.List.{List}
 use native.Mathlib.Omega.{arith}
+use Rattle.std.specs.Prelude.{Option, Some, None}
 use Rattle.laws.proofs.Depth.{deep_own}
 use Rattle.cutting.specs.Piece.{Piece}
 use Rattle.cutting.specs.Dissection.{rest, crossed}
 use Rattle.cutting.proofs.Tree.{part_less}
-use Rattle.nodes.specs.Reads.{Frame, Tally}
+use Rattle.nodes.specs.Reads.{Frame}
+use Rattle.nodes.specs.declared.Tally.{Tally}
 use Rattle.nodes.specs.Inner.{Part, tally_both, near_part, far_part, behind_node, with_first, then_read, both_parts, part_by, around, node_at, part_at}
 use Rattle.nodes.specs.declared.Node.{Node}
 use Rattle.nodes.proofs.Rules.{Tells, node_tells}
@@ -20,17 +22,17 @@ module _ (R S : Frame → Part) where
   then_same (Part.Read m a) second other e = ap (with_first a) (e m)
   then_same Part.Broken second other e = refl
 
-  part_by_same : (pieces : List Piece) (s : List ℕ) (f : Frame) (n : Node) → Tells pieces s f n
+  part_by_same : (pieces : List Piece) (s : List ℕ) (f : Frame) (n : Option Node) → Tells pieces s f n
       → ((g : Frame) → around g < around f → R g ≡ S g) → part_by pieces R f n ≡ part_by pieces S f n
   unfolding part_by both_parts
-  part_by_same pieces s f (Node.Line tall c) h e =
+  part_by_same pieces s f (Some (Node.Line tall c)) h e =
       let near = part_less tall f.width f.height c (omega (arith, h.1.least, h.1.most)) in
       let far = part_less tall f.width f.height (rest (crossed tall f.width f.height) c) (omega (arith, h.1.least, h.1.most)) in
       ap (λ (p : Part). then_read p (λ m. R (far_part (behind_node f) tall c m))) (e (near_part (behind_node f) tall c) near)
       ∙ then_same (S (near_part (behind_node f) tall c)) _ _ (λ m. e (far_part (behind_node f) tall c m) far)
-  part_by_same pieces s f (Node.Piece k) h e = refl
-  part_by_same pieces s f Node.Scrap h e = refl
-  part_by_same pieces s f Node.Broken h e = refl
+  part_by_same pieces s f (Some (Node.Piece k)) h e = refl
+  part_by_same pieces s f (Some Node.Scrap) h e = refl
+  part_by_same pieces s f None h e = refl
 
 module _ (pieces : List Piece) (s : List ℕ) where
   pub part_own : (f : Frame) → part_at pieces s f ≡ part_by pieces (part_at pieces s) f (node_at pieces s f)
@@ -38,11 +40,11 @@ module _ (pieces : List Piece) (s : List ℕ) where
   part_own = deep_own _ _ _ (λ R S f same. part_by_same R S pieces s f (node_at pieces s f) (node_tells pieces s f refl) same)
 
   -- A part by the node that was found.
-  pub part_by_lem : (f : Frame) {n : Node} → node_at pieces s f ≡ n → part_at pieces s f ≡ part_by pieces (part_at pieces s) f n
+  pub part_by_lem : (f : Frame) {n : Option Node} → node_at pieces s f ≡ n → part_at pieces s f ≡ part_by pieces (part_at pieces s) f n
   part_by_lem f e = part_own f ∙ ap (part_by pieces (part_at pieces s) f) e
 
   -- A line whose two parts were read.
-  pub part_line : (f : Frame) (tall : Bool) (c m n : ℕ) (a b : Tally) → node_at pieces s f ≡ Node.Line tall c
+  pub part_line : (f : Frame) (tall : Bool) (c m n : ℕ) (a b : Tally) → node_at pieces s f ≡ Some (Node.Line tall c)
       → part_at pieces s (near_part (behind_node f) tall c) ≡ Part.Read m a → part_at pieces s (far_part (behind_node f) tall c m) ≡ Part.Read n b
       → part_at pieces s f ≡ Part.Read n (tally_both a b)
   unfolding part_by both_parts then_read with_first

@@ -5,6 +5,7 @@ use mathlib.Core.Path.{◌≡◌, refl, sym, subst, ◌∙◌}
 use mathlib.Core.List.{List}
 use native.Mathlib.Omega.{arith}
 use lib.ListN.{length, get_or}
+use Rattle.std.specs.Prelude.{Option, Some, None}
 use Rattle.laws.specs.Inner.{Says}
 use Rattle.laws.proofs.Choice.{chosen, not_chosen, either_way}
 use Rattle.laws.proofs.Says.{says_iff, says_and, says_le, says_eq}
@@ -49,12 +50,12 @@ module _ (pieces : List Piece) (letter number x y : ℕ) where
   on_S e = rw e
 
   pub on_other : (letter ≡ letter_v → ⊥) → (letter ≡ letter_h → ⊥) → (letter ≡ letter_p → ⊥) → (letter ≡ letter_s → ⊥)
-      → Node.Broken ≡ letter_node pieces letter number x y
+      → None ≡ letter_node pieces letter number x y
   unfolding letter_node
   on_other a b c d = sym (not_chosen (says_eq _ _) _ _ a ∙ not_chosen (says_eq _ _) _ _ b ∙ not_chosen (says_eq _ _) _ _ c ∙ not_chosen (says_eq _ _) _ _ d)
 
 -- The node at a place: there, or not whole.
-pub node_short : (pieces : List Piece) (s : List ℕ) (f : Frame) → length s < f.at + node_length → Node.Broken ≡ node_at pieces s f
+pub node_short : (pieces : List Piece) (s : List ℕ) (f : Frame) → length s < f.at + node_length → None ≡ node_at pieces s f
 unfolding node_at
 node_short pieces s f h = sym (not_chosen (says_le (f.at + node_length) (length s)) _ _ (λ l. omega arith))
 
@@ -64,12 +65,12 @@ unfolding node_at
 node_whole pieces s f n = rw (n.letter, n.number) (sym (chosen (says_le _ _) _ _ n.whole))
 
 -- What a node that was found tells: its letter and its number stand there, and it obeys the letter's rule.
-abbrev pub Tells : List Piece → List ℕ → Frame → Node → Type 0
-Tells pieces s f (Node.Line tall c) =
+abbrev pub Tells : List Piece → List ℕ → Frame → Option Node → Type 0
+Tells pieces s f (Some (Node.Line tall c)) =
     NodeStands s f.at (letter_of tall) c × Line (crossed tall f.width f.height) c (rest (crossed tall f.width f.height) c)
-Tells pieces s f (Node.Piece k) = NodeStands s f.at letter_p k × Numbered pieces k f.width f.height (piece_at pieces k).value
-Tells pieces s f Node.Scrap = NodeStands s f.at letter_s 0
-Tells pieces s f Node.Broken = Unit {0}
+Tells pieces s f (Some (Node.Piece k)) = NodeStands s f.at letter_p k × Numbered pieces k f.width f.height (piece_at pieces k).value
+Tells pieces s f (Some Node.Scrap) = NodeStands s f.at letter_s 0
+Tells pieces s f None = Unit {0}
 
 judged : (pieces : List Piece) (s : List ℕ) (f : Frame) → Tells pieces s f (node_at pieces s f)
 unfolding node_at letter_node
@@ -84,7 +85,7 @@ judged pieces s f =
     (λ _. tt)))))
     (λ _. tt)
   where
-    X : Node → Type 0
+    X : Option Node → Type 0
     X = Tells pieces s f
 
     letter : ℕ
@@ -97,5 +98,5 @@ judged pieces s f =
     of_line h tall e =
         either_way X (is_inside_says (crossed tall f.width f.height) number) _ _ (λ l. (record { whole = h; letter = sym e; number = refl }, l)) (λ _. tt)
 
-pub node_tells : (pieces : List Piece) (s : List ℕ) (f : Frame) {n : Node} → node_at pieces s f ≡ n → Tells pieces s f n
+pub node_tells : (pieces : List Piece) (s : List ℕ) (f : Frame) {n : Option Node} → node_at pieces s f ≡ n → Tells pieces s f n
 node_tells pieces s f e = subst (Tells pieces s f) e (judged pieces s f)

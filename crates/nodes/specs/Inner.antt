@@ -1,15 +1,18 @@
 -- The reading of nodes as it computes; nobody has to believe it: `exactly` says that it reads what `ReadAs` says.
-use Rattle.std.specs.Prelude.{ℕ, ◌<◌, ◌+◌, ◌-◌, ◌*◌, ◌^◌, ◌≤◌, ◌≡◌, List, [], ◌∷◌, Bool, true, false, cond, ◌&&◌, get_or, length, replicate, leb, eqb}
+use Rattle.std.specs.Prelude.{ℕ, ◌<◌, ◌+◌, ◌-◌, ◌*◌, ◌^◌, ◌≤◌, ◌≡◌, List, Bool, true, false, cond, ◌&&◌, get_or, length, leb, eqb, Option, Some, None}
 use Rattle.laws.specs.Inner.{deep}
 use Rattle.cutting.specs.Limits.{value_max}
-use Rattle.cutting.specs.Piece.{Piece, piece_at, Numbered, Lays, InRange}
+use Rattle.cutting.specs.Piece.{Piece, piece_at, Lays, InRange}
 use Rattle.cutting.specs.Dissection.{rest, crossed, part_width, part_height, Line}
 use Rattle.cutting.specs.Tree.{Tree}
-use Rattle.board.specs.Inner.{entries}
+use Rattle.board.specs.Inner.{pieces_on}
 use Rattle.fields.specs.Number.{number2_of}
 use Rattle.fields.specs.Format.{letter_v, letter_h, letter_p, letter_s, node_length}
-use Rattle.nodes.specs.Reads.{Frame, frame, Tally}
+use Rattle.nodes.specs.Reads.{Frame, frame}
+use Rattle.nodes.specs.declared.Tally.{Tally}
 use Rattle.nodes.specs.declared.Node.{Node}
+use Rattle.nodes.specs.declared.Nodes.{Nodes}
+use Rattle.nodes.specs.declared.Reading.{Reading}
 
 -- Each number of the tree has its two bytes.
 unfoldable pub Written : Tree → Type 0
@@ -23,23 +26,23 @@ Written Tree.scrap_s = Unit {0}
 unfoldable pub is_inside : ℕ → ℕ → Bool
 is_inside side c = leb 1 c && leb c (side - 1)
 
-abbrev pub line_node : Bool → ℕ → ℕ → Node
-line_node tall side c = cond (is_inside side c) (Node.Line tall c) Node.Broken
+abbrev pub line_node : Bool → ℕ → ℕ → Option Node
+line_node tall side c = cond (is_inside side c) (Some (Node.Line tall c)) None
 
 -- k is the number of a piece of exactly this size (rule 8.10).
 unfoldable pub is_piece : List Piece → ℕ → ℕ → ℕ → Bool
 is_piece pieces k x y =
     leb 1 k && (leb k (length pieces) && (eqb (piece_at pieces k).width x && eqb (piece_at pieces k).height y))
 
-abbrev pub piece_node : List Piece → ℕ → ℕ → ℕ → Node
-piece_node pieces k x y = cond (is_piece pieces k x y) (Node.Piece k) Node.Broken
+abbrev pub piece_node : List Piece → ℕ → ℕ → ℕ → Option Node
+piece_node pieces k x y = cond (is_piece pieces k x y) (Some (Node.Piece k)) None
 
 -- A scrap has the number 0 (rule 8.10).
-abbrev pub scrap_node : ℕ → Node
-scrap_node number = cond (eqb number 0) Node.Scrap Node.Broken
+abbrev pub scrap_node : ℕ → Option Node
+scrap_node number = cond (eqb number 0) (Some Node.Scrap) None
 
 -- Each of the four letters has its test, any other is broken (rule 8.10).
-unfoldable pub letter_node : List Piece → ℕ → ℕ → ℕ → ℕ → Node
+unfoldable pub letter_node : List Piece → ℕ → ℕ → ℕ → ℕ → Option Node
 letter_node pieces letter number x y =
     cond (eqb letter letter_v)
     (line_node false (crossed false x y) number)
@@ -47,14 +50,14 @@ letter_node pieces letter number x y =
     (line_node true (crossed true x y) number)
     (cond (eqb letter letter_p)
     (piece_node pieces number x y)
-    (cond (eqb letter letter_s) (scrap_node number) Node.Broken)))
+    (cond (eqb letter letter_s) (scrap_node number) None)))
 
 -- The node is whole: its three bytes are there (rule 8.10).
-unfoldable pub node_at : List Piece → List ℕ → Frame → Node
+unfoldable pub node_at : List Piece → List ℕ → Frame → Option Node
 node_at pieces s f =
     cond (leb (f.at + node_length) (length s))
     (letter_node pieces (get_or s f.at 0) (number2_of s (f.at + 1)) f.width f.height)
-    Node.Broken
+    None
 
 -- A part is read by its node; behind a line come its two parts, which are read in the same way (rule 8.6).
 
@@ -101,11 +104,11 @@ then_read Part.Broken second = Part.Broken
 unfoldable pub both_parts : (Frame → Part) → Frame → Bool → ℕ → Part
 both_parts read f tall c = then_read (read (near_part f tall c)) (λ middle. read (far_part f tall c middle))
 
-unfoldable pub part_by : List Piece → (Frame → Part) → Frame → Node → Part
-part_by pieces read f (Node.Line tall c) = both_parts read (behind_node f) tall c
-part_by pieces read f (Node.Piece k) = Part.Read (f.at + node_length) (piece_tally (piece_at pieces k).value f.width f.height)
-part_by pieces read f Node.Scrap = Part.Read (f.at + node_length) (scrap_tally f.width f.height)
-part_by pieces read f Node.Broken = Part.Broken
+unfoldable pub part_by : List Piece → (Frame → Part) → Frame → Option Node → Part
+part_by pieces read f (Some (Node.Line tall c)) = both_parts read (behind_node f) tall c
+part_by pieces read f (Some (Node.Piece k)) = Part.Read (f.at + node_length) (piece_tally (piece_at pieces k).value f.width f.height)
+part_by pieces read f (Some Node.Scrap) = Part.Read (f.at + node_length) (scrap_tally f.width f.height)
+part_by pieces read f None = Part.Broken
 
 -- Each line shortens a side, so that a part's two sides together are as many lines as there can be one below the other.
 abbrev pub around : Frame → ℕ
@@ -117,43 +120,49 @@ part_at pieces s = deep around Part.Broken (λ read f. part_by pieces read f (no
 abbrev pub both_at : List Piece → List ℕ → ℕ → ℕ → ℕ → Bool → ℕ → Part
 both_at pieces s at x y tall c = both_parts (part_at pieces s) (frame at x y) tall c
 
--- The row of sums that the reader is lent: value, area of the pieces, area of the scrap, of the leaves read so far.
+-- The same of a plan file's nodes.
+abbrev pub pieces_in : Nodes → List Piece
+pieces_in nodes = pieces_on nodes.board.now
 
-abbrev pub no_sums : List ℕ
-no_sums = replicate 3 0
+abbrev pub part_in : Nodes → ℕ → ℕ → ℕ → Part
+part_in nodes at x y = part_at (pieces_in nodes) nodes.bytes.now (frame at x y)
 
-abbrev pub tally_in : List ℕ → Tally
-tally_in sums = tally (get_or sums 0 0) (get_or sums 1 0) (get_or sums 2 0)
+-- How far the reader has come.
 
--- With the leaves of one more part.
-unfoldable pub grown : List ℕ → Tally → List ℕ
-grown sums t = (get_or sums 0 0 + t.value) ∷ (get_or sums 1 0 + t.pieces) ∷ (get_or sums 2 0 + t.scrap) ∷ []
+abbrev pub no_leaves : Tally
+no_leaves = tally 0 0 0
 
--- What the readers answer for a part: the place after its nodes, and the sums have grown by its leaves; or 0, and nothing is said of the sums.
-pub data ReadsTo (before after : List ℕ) (r : ℕ) : Part → Type 0 where
-  read : {next : ℕ} {t : Tally} → r ≡ next → after ≡ grown before t → ReadsTo before after r (Part.Read next t)
-  broken : r ≡ 0 → ReadsTo before after r Part.Broken
+abbrev pub reading : ℕ → Tally → Reading
+reading at t = record { at = at; leaves = t }
 
--- The row of three has room for a tally.
-pub record RoomFor (sums : List ℕ) (t : Tally) : Type 0 where
-  pub long : length sums ≡ 3
-  pub value : get_or sums 0 0 + t.value < 2 ^ 32
-  pub pieces : get_or sums 1 0 + t.pieces < 2 ^ 32
-  pub scrap : get_or sums 2 0 + t.scrap < 2 ^ 32
+-- Behind a leaf's node, with what the leaf adds.
+abbrev pub behind_leaf : Reading → Tally → Reading
+behind_leaf r t = reading (r.at + node_length) (tally_both r.leaves t)
+
+-- A part that was read, with no leaf before it.
+unfoldable pub read_of : Part → Option Reading
+read_of (Part.Read next t) = Some (reading next t)
+read_of Part.Broken = None
+
+-- What the readers answer for a part: they come to its end, and its leaves are added; or none, and nothing is said of what was read.
+pub data ReadsTo (before : Tally) (after : Reading) (r : Option (Unit {0})) : Part → Type 0 where
+  read : {next : ℕ} {t : Tally} → r ≡ Some tt → after ≡ reading next (tally_both before t) → ReadsTo before after r (Part.Read next t)
+  broken : r ≡ None → ReadsTo before after r Part.Broken
+
+-- A tally has room for another.
+pub record RoomFor (before t : Tally) : Type 0 where
+  pub value : before.value + t.value < 2 ^ 32
+  pub pieces : before.pieces + t.pieces < 2 ^ 32
+  pub scrap : before.scrap + t.scrap < 2 ^ 32
 
 -- What a part's reader may rely on: pieces in range, a rectangle (rule 2.1), and room for the most that it can add.
-pub record MayRead (pieces : List Piece) (x y : ℕ) (sums : List ℕ) : Type 0 where
-  pub few : length pieces ≤ entries
+pub record MayRead (pieces : List Piece) (x y : ℕ) (before : Tally) : Type 0 where
   pub range : InRange (Lays pieces)
   pub wide : 1 ≤ x
   pub high : 1 ≤ y
-  pub room : RoomFor sums (tally (x * y * value_max) (x * y) (x * y))
+  pub room : RoomFor before (tally (x * y * value_max) (x * y) (x * y))
 
--- The same of a part that a line goes through, and of one that is a piece.
-pub record MayReadLine (pieces : List Piece) (x y : ℕ) (tall : Bool) (c : ℕ) (sums : List ℕ) : Type 0 where
-  pub part : MayRead pieces x y sums
+-- The same of a part that a line goes through.
+pub record MayReadLine (pieces : List Piece) (x y : ℕ) (tall : Bool) (c : ℕ) (before : Tally) : Type 0 where
+  pub part : MayRead pieces x y before
   pub line : Line (crossed tall x y) c (rest (crossed tall x y) c)
-
-pub record MayReadPiece (pieces : List Piece) (k x y : ℕ) (sums : List ℕ) : Type 0 where
-  pub part : MayRead pieces x y sums
-  pub numbered : Numbered pieces k x y (piece_at pieces k).value

@@ -3,6 +3,7 @@ use Rattle.std.specs.Prelude.{ℕ, ◌+◌, ◌≡◌, List, ◌++◌, length, d
 use Rattle.cutting.specs.Piece.{Piece}
 use Rattle.cutting.specs.Tree.{Tree, Valid, earning, piece_area_of, scrap_area_of}
 use Rattle.nodes.specs.Encoding.{encode}
+use Rattle.nodes.specs.declared.Tally.{Tally}
 
 -- A part to be read: where its nodes start, and its sides.
 pub record Frame : Type 0 where
@@ -13,12 +14,6 @@ pub record Frame : Type 0 where
 -- The part of x by y whose nodes start at a place.
 abbrev pub frame : ℕ → ℕ → ℕ → Frame
 frame at x y = record { at = at; width = x; height = y }
-
--- What the leaves of a part add up to: their value, the area of the pieces and that of the scrap.
-pub record Tally : Type 0 where
-  pub value : ℕ
-  pub pieces : ℕ
-  pub scrap : ℕ
 
 -- The bytes of s from `at` up to `next` are those of e.
 pub record Found (s : List ℕ) (at : ℕ) (e : List ℕ) (next : ℕ) : Type 0 where

@@ -1,63 +1,67 @@
 // The rule of each letter: what its node is on a part of this width and height, and whether it is broken.
-ghost use Rattle.std.specs.Prelude.{◌≡◌, ◌≤◌};
-ghost use Rattle.board.specs.Inner.{entries, count_on, pieces_on};
+ghost use Rattle.std.specs.Prelude.{◌≡◌};
+ghost use Rattle.board.specs.Inner.{pieces_on};
 ghost use Rattle.nodes.specs.Inner.{line_node, piece_node, scrap_node, letter_node};
 
 use crate::Node;
+use board::Board;
 use board::line::crossed;
-use board::{Board, count, piece_height, piece_width};
-use fields::cast::wide;
 use fields::format::{HORIZONTAL, PIECE, SCRAP, VERTICAL};
 
 // `V` and c, `H` and d: a line through a side (rule 8.5).
-fn line_node(tall: bool, side: usize, number: u16) -> Node
+fn line_node(tall: bool, side: usize, number: u16) -> Option<Node>
     ensures { result ≡ line_node tall side number }
 {
-    let c = wide(number);
+    let c = usize::from(number);
     if c == 0 {
-        return Node::Broken;
+        return None;
     }
     if c >= side {
-        return Node::Broken;
+        return None;
     }
-    Node::Line(tall, number)
+    Some(Node::Line(tall, number))
 }
 
 // `P` and the number of a piece of exactly this size (rule 8.5).
-fn piece_node(board: &Board, number: u16, width: usize, height: usize) -> Node
-    requires { count_on board.now ≤ entries }
+fn piece_node(board: &Board, number: u16, width: usize, height: usize) -> Option<Node>
     ensures { result ≡ piece_node (pieces_on board.now) number width height }
 {
-    let k = wide(number);
+    let k = usize::from(number);
     if k == 0 {
-        return Node::Broken;
+        return None;
     }
-    let last = count(board);
+    let last = board.count();
     if k > last {
-        return Node::Broken;
+        return None;
     }
-    if wide(piece_width(board, k - 1)) != width {
-        return Node::Broken;
+    let piece = board.piece(k - 1);
+    if usize::from(piece.width) != width {
+        return None;
     }
-    if wide(piece_height(board, k - 1)) != height {
-        return Node::Broken;
+    if usize::from(piece.height) != height {
+        return None;
     }
-    Node::Piece(number)
+    Some(Node::Piece(number))
 }
 
 // `S` and 0 (rule 8.5).
-fn scrap_node(number: u16) -> Node
+fn scrap_node(number: u16) -> Option<Node>
     ensures { result ≡ scrap_node number }
 {
     if number != 0 {
-        return Node::Broken;
+        return None;
     }
-    Node::Scrap
+    Some(Node::Scrap)
 }
 
 // A node by its letter and its number.
-pub(crate) fn by_letter(board: &Board, letter: u8, number: u16, width: usize, height: usize) -> Node
-    requires { count_on board.now ≤ entries }
+pub(crate) fn by_letter(
+    board: &Board,
+    letter: u8,
+    number: u16,
+    width: usize,
+    height: usize,
+) -> Option<Node>
     ensures { result ≡ letter_node (pieces_on board.now) letter number width height }
 {
     match letter {
@@ -65,6 +69,6 @@ pub(crate) fn by_letter(board: &Board, letter: u8, number: u16, width: usize, he
         HORIZONTAL => line_node(true, crossed(true, width, height), number),
         PIECE => piece_node(board, number, width, height),
         SCRAP => scrap_node(number),
-        _ => Node::Broken,
+        _ => None,
     }
 }

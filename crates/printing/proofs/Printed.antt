@@ -10,7 +10,8 @@ use lib.Seq.{take_all, take-append-le, take-append-add, take-suc}
 use Rattle.laws.specs.Put.{put}
 use Rattle.laws.proofs.Order.{le_or_lt}
 use Rattle.laws.proofs.Put.{put_length, put_one, put_none, put_put}
-use Rattle.printing.specs.Inner.{fitting, Printed}
+use Rattle.printing.specs.Inner.{fitting, Printed, Writes}
+use Rattle.printing.specs.declared.Text.{Text}
 
 -- What fits, by cases.
 fits_all : (o : List ℕ) (at : ℕ) (e : List ℕ) → length e ≤ length o - at → fitting o at e ≡ e
@@ -111,16 +112,22 @@ printed_none {o} {at} e h =
     let none = fits_none o at e h in
     record { place = omega (arith, ap length none); bytes = sym (ap (put o at) none ∙ put_none o at) }
 
--- A word, byte by byte.
-pub printed_more : {o p q : List ℕ} {at m n : ℕ} (word : List ℕ) (i : ℕ) → i < length word → Printed o at (take i word) m p
-    → Printed p m (get_or word i 0 ∷ []) n q → Printed o at (take (i + 1) word) n q
-printed_more word i h v w = printed_as (rw add-one (sym (take-suc word i 0 h))) (printed_both (take i word) (get_or word i 0 ∷ []) v w)
-
-pub printed_whole : {o p : List ℕ} {at n : ℕ} (word : List ℕ) (i : ℕ) → length word ≤ i → Printed o at (take i word) n p → Printed o at word n p
-printed_whole word i h w = printed_as (take_all i word h) w
-
 -- With room enough all of it is written.
 pub printed_put : {o p : List ℕ} {at n : ℕ} {e : List ℕ} → at + length e ≤ length o → Printed o at e n p → (n ≡ at + length e) × (p ≡ put o at e)
 printed_put {o} {at = at} {e = e} h w =
     let all = fits_all o at e (omega arith) in
     (w.place ∙ ap (λ (l : List ℕ). at + length l) all, w.bytes ∙ ap (put o at) all)
+
+-- A text: nothing written, one byte, one part behind another, a word byte by byte.
+pub writes_nothing : (t : Text) → Writes t [] t
+writes_nothing t = record { row = refl; printed = printed_nothing t.row.now t.at }
+
+pub writes_both : {t u v : Text} (e f : List ℕ) → Writes t e u → Writes u f v → Writes t (e ++ f) v
+writes_both e f x y = record { row = y.row ∙ x.row; printed = printed_both e f x.printed y.printed }
+
+pub writes_as : {t u : Text} {e f : List ℕ} → e ≡ f → Writes t e u → Writes t f u
+writes_as {t} {u} g w = subst (λ (l : List ℕ). Writes t l u) g w
+
+pub writes_more : {t u v : Text} (word : List ℕ) (i : ℕ) → i < length word → Writes t (take i word) u → Writes u (get_or word i 0 ∷ []) v
+    → Writes t (take (i + 1) word) v
+writes_more word i h x y = writes_as (rw add-one (sym (take-suc word i 0 h))) (writes_both (take i word) (get_or word i 0 ∷ []) x y)

@@ -1,10 +1,9 @@
-use Rattle.printing.proofs.Printed.{printed_both}
-use Rattle.listing.specs.Line.{head_text}
+use Rattle.printing.proofs.Printed.{writes_both}
+use Rattle.listing.specs.Line.{spaced, ended, head_text}
 use Rattle.listing.proofs.line.put_head.Goals as goal
 
--- `put_head` meets its contract.
 pub returns : goal.returns
-unfolding head_text
+unfolding head_text spaced ended
 returns c =
-    printed_both _ _ c.put_word-first.ensures
-    (printed_both _ _ c.put_spaced-second.ensures (printed_both _ _ c.put_word-third.ensures c.put_ended.ensures))
+    writes_both _ _ c.put_word.ensures
+    (writes_both _ _ c.put_number.ensures (writes_both _ _ c.put_word-2.ensures c.put_number-2.ensures))

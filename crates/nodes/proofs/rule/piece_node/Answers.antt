@@ -12,14 +12,14 @@ returns-then-k-eq0 c = sym (not_chosen (is_piece_says _ _ _ _) _ _ (λ n. omega 
 pub returns-then-k-last : goal.returns-then-k-last
 returns-then-k-last c = sym (not_chosen (is_piece_says _ _ _ _) _ _ (λ n. omega (arith, entry_last _ n)))
 
-pub returns-then-wide-width : goal.returns-then-wide-width
-returns-then-wide-width c = sym (not_chosen (is_piece_says _ _ _ _) _ _ (λ n. omega (arith, entry_width _ n c.piece_width.ensures (omega arith))))
+pub returns-then-from-width : goal.returns-then-from-width
+returns-then-from-width c = sym (not_chosen (is_piece_says _ _ _ _) _ _ (λ n. omega (arith, entry_width _ n c.piece-piece.ensures.width (omega arith))))
 
-pub returns-then-wide-height : goal.returns-then-wide-height
-returns-then-wide-height c = sym (not_chosen (is_piece_says _ _ _ _) _ _ (λ n. omega (arith, entry_height _ n c.piece_height.ensures (omega arith))))
+pub returns-then-from-height : goal.returns-then-from-height
+returns-then-from-height c = sym (not_chosen (is_piece_says _ _ _ _) _ _ (λ n. omega (arith, entry_height _ n c.piece-piece.ensures.height (omega arith))))
 
 pub returns : goal.returns
 returns c =
-    let wide = c.piece_width.ensures in
+    let wide = c.piece-piece.ensures.width in
     sym (chosen (is_piece_says _ _ _ _) _ _
-    (entry_numbered _ (omega arith) (omega arith) wide (omega arith) (omega arith) c.piece_height.ensures (omega arith) (omega arith)))
+    (entry_numbered _ (omega arith) (omega arith) wide (omega arith) (omega arith) c.piece-piece.ensures.height (omega arith) (omega arith)))

@@ -1,6 +1,6 @@
 -- The area falls at each line: a part's measure is twice its area and 1, a line's is twice its area.
 use Prim.Native.Nat.{◌+◌, ◌*◌}
-use Rattle.nodes.proofs.+read_line_read_part.Given as goal
+use Rattle.nodes.proofs.Nodes.+read_line_read_part.Given as goal
 
 abbrev pub decreases-read_line : goal.decreases-read_line
 decreases-read_line l = 2 * (l.width * l.height)

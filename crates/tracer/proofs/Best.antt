@@ -12,6 +12,7 @@ use Rattle.cutting.proofs.Box.{box_induction}
 use Rattle.cutting.proofs.Rule.{best_is_worth}
 use Rattle.board.specs.Inner.{Rows, Hold}
 use Rattle.tracer.specs.Rules.{None, AddsUp, Fitting, TreeBy}
+use Rattle.std.proofs.Common.{Option}
 use Rattle.tracer.specs.declared.Step.{Step}
 use Rattle.tracer.proofs.Strikes.{Strikes, ruled_strikes}
 use Rattle.tracer.proofs.ByRules.{trim}
@@ -35,7 +36,7 @@ best_traced {pieces} {rows} {a} {b} hold range cell x y g h best =
     candidate u w j =
         (best_is_worth (Lays pieces) range a b cell u w (cell u w) (omega arith) (λ m n k. best m n (omega (arith, k.inside))) (best u w j)).attained
 
-    step : (u w : ℕ) → Inside u w x y → ((m n : ℕ) → Smaller m n u w → (tree : Tree) × TreeBy pieces a b cell m n tree) → {s : Step} {k : Inside u w a b}
+    step : (u w : ℕ) → Inside u w x y → ((m n : ℕ) → Smaller m n u w → (tree : Tree) × TreeBy pieces a b cell m n tree) → {s : Option Step} {k : Inside u w a b}
         → Strikes hold cell u w k s → (tree : Tree) × TreeBy pieces a b cell u w tree
     step u w i below (Strikes.rule1 z) = (Tree.scrap_s, TreeBy.rule1 z)
     step u w i below (Strikes.rule2 {k = k} z l) = (Tree.piece_p k, TreeBy.rule2 z l)

@@ -6,9 +6,7 @@ pub mod Valid
 pub mod ByRules
 pub mod Best
 pub mod Same
-pub mod Parts
-pub mod Tests
-pub mod Steps
-pub mod Lengths
 pub mod Wrote
+pub mod Found
+pub mod Steps
 pub mod Walked

@@ -12,8 +12,10 @@ use Rattle.cutting.specs.Dissection.{rest, crossed}
 use Rattle.cutting.specs.Tree.{Tree}
 use Rattle.cutting.proofs.Tree.{line_far, part_inside}
 use Rattle.board.specs.Inner.{Rows}
+use Rattle.std.proofs.Common.{Option, Some, None}
+use Rattle.tracer.specs.declared.Wanted.{Wanted}
 use Rattle.tracer.specs.declared.Step.{Step}
-use Rattle.tracer.specs.Inner.{free, waste, WantedPart, near_wanted, far_wanted, two_cells, marks, adds_to, least_line, cut_out, ruled, step_in, tree_by, traces_by, sides_of, traced, traces}
+use Rattle.tracer.specs.Inner.{WantedPart, near_wanted, far_wanted, two_cells, marks, some_number, adds_to, least_line, ruled, step_in, tree_by, traces_by, sides_of, traced, traces}
 use Rattle.tracer.proofs.Traced.{step_inside, near_less, far_less, traced_own, traces_own}
 
 -- The cells of the rectangle agree.
@@ -30,7 +32,7 @@ module _ (rows : Rows) (cell other : ℕ → ℕ → ℕ) where
       let found = first_same _ _ (crossed tall x y / 2) (λ i b. ap (λ (n : ℕ). marks rows tall (suc i) && eqb n number)
       (ap₂ ◌+◌ (same _ _ (part_inside tall x y (suc i) h k (omega arith) (omega arith)))
       (same _ _ (part_inside tall x y (rest (crossed tall x y) (suc i)) h k (omega arith) (omega arith))))) in
-      ap (λ (n : ℕ). cond (ltb n (crossed tall x y / 2)) (suc n) 0) found
+      ap (λ (n : ℕ). some_number (cond (ltb n (crossed tall x y / 2)) (suc n) 0)) found
 
   ruled_same : (x y : ℕ) → 1 ≤ x → 1 ≤ y → Same x y → ruled rows cell x y (cell x y) ≡ ruled rows other x y (other x y)
   unfolding ruled
@@ -38,9 +40,12 @@ module _ (rows : Rows) (cell other : ℕ → ℕ → ℕ) where
 
   step_same : (p : WantedPart) → 1 ≤ p.width → 1 ≤ p.height → Same p.width p.height → step_in rows cell p ≡ step_in rows other p
   unfolding step_in
-  step_same p h k same =
-      ap (λ (s : Step). cond (eqb p.wanted free) s (cond (eqb p.wanted waste) Step.Scrap (cut_out rows p.width p.height p.wanted)))
-      (ruled_same p.width p.height h k same)
+  step_same p h k same = go p.wanted
+    where
+      go : (w : Wanted) → step_in rows cell (record p { wanted = w }) ≡ step_in rows other (record p { wanted = w })
+      go Wanted.Free = ruled_same p.width p.height h k same
+      go (Wanted.Piece n) = refl
+      go Wanted.Waste = refl
 
   abbrev Agree : WantedPart → Type 0
   Agree p = 1 ≤ p.width → 1 ≤ p.height → Same p.width p.height → (traced rows cell p ≡ traced rows other p) × (traces rows cell p ≡ traces rows other p)
@@ -51,12 +56,13 @@ module _ (rows : Rows) (cell other : ℕ → ℕ → ℕ) where
       let goes = go p below h k same (step_in rows other p) refl in
       (traced_own rows cell p e ∙ (goes.0 ∙ sym (traced_own rows other p refl)), traces_own rows cell p e ∙ (goes.1 ∙ sym (traces_own rows other p refl))))
     where
-      go : (p : WantedPart) → ((q : WantedPart) → sides_of q < sides_of p → Agree q) → 1 ≤ p.width → 1 ≤ p.height → Same p.width p.height → (step : Step)
+      go : (p : WantedPart) → ((q : WantedPart) → sides_of q < sides_of p → Agree q) → 1 ≤ p.width → 1 ≤ p.height → Same p.width p.height → (step : Option Step)
           → step_in rows other p ≡ step
           → (tree_by (traced rows cell) p step ≡ tree_by (traced rows other) p step) × (traces_by (traces rows cell) p step ≡ traces_by (traces rows other) p step)
-      go p below h k same Step.Scrap e = (refl, refl)
-      go p below h k same (Step.Piece n) e = (refl, refl)
-      go p below h k same (Step.Line tall c wanted) e =
+      go p below h k same None e = (refl, refl)
+      go p below h k same (Some Step.Scrap) e = (refl, refl)
+      go p below h k same (Some (Step.Piece n)) e = (refl, refl)
+      go p below h k same (Some (Step.Line tall c wanted)) e =
           let l = step_inside rows other p e in
           let near = part_inside tall p.width p.height c h k l.least (omega (arith, l.most)) in
           let far = part_inside tall p.width p.height (rest (crossed tall p.width p.height) c) h k (line_far l) (omega arith) in
@@ -65,7 +71,6 @@ module _ (rows : Rows) (cell other : ℕ → ℕ → ℕ) where
           let f = below (far_wanted tall c wanted p) (far_less tall c wanted p l) far.width_least far.height_least
           (λ u w i. same u w (omega (arith, i, far))) in
           (ap₂ (Tree.line tall c) n.0 f.0, ap₂ ◌&&◌ n.1 f.1)
-      go p below h k same Step.Struck e = (refl, refl)
 
   pub traced_same : (p : WantedPart) → 1 ≤ p.width → 1 ≤ p.height → Same p.width p.height → traced rows cell p ≡ traced rows other p
   traced_same p h k same = (agree p h k same).0

@@ -18,20 +18,23 @@ use Rattle.board.specs.Inner.{Rows, Hold}
 use Rattle.board.proofs.Holds.{IsRow, row_of}
 use Rattle.tracer.specs.Rules.{Least, None, PointOf, Exact, part_cell, AddsUp, Fitting}
 use Rattle.tracer.proofs.Least.{least_unique}
-use Rattle.tracer.specs.Inner.{free, two_cells, marks, suits, first_piece, adds_to, least_line, cut_out, strikes, ruled}
+use Rattle.tracer.specs.Inner.{two_cells, marks, is_size, fits_in, suits, some_number, first_piece, adds_to, least_line, cut_out, strikes, ruled}
+use Rattle.std.proofs.Common.{Option}
+use Rattle.std.specs.declared.option.Option.TheVariants.{None as nothing, Some}
+use Rattle.tracer.specs.declared.Wanted.{Wanted}
 use Rattle.tracer.specs.declared.Step.{Step}
 
--- What a search by number found: the least of a set of numbers from 1, or 0 where there is none.
-pub data Searched (S : ℕ → Type 0) : ℕ → Type 0 where
-  none : None S → Searched S 0
-  least : {k : ℕ} → Least S (suc k) → Searched S (suc k)
+-- What a search found: the least of a set of numbers, or nothing where there is none.
+pub data Searched (S : ℕ → Type 0) : Option ℕ → Type 0 where
+  none : None S → Searched S nothing
+  least : {k : ℕ} → Least S k → Searched S (Some k)
 
 -- A search by a test that says what is in the set, which has numbers from 1 to n alone.
 number_found : (f : ℕ → Bool) (n : ℕ) (S : ℕ → Type 0) → ((i : ℕ) → i < n → Says (f i) (S (suc i))) → ((k : ℕ) → S k → (1 ≤ k) × (k ≤ n))
-    → Searched S (first_number f n)
+    → Searched S (some_number (first_number f n))
 unfolding first_number
 number_found f n S says among =
-    either_way (Searched S) (says_lt (first_below f n) n) _ _
+    either_way (λ (k : ℕ). Searched S (some_number k)) (says_lt (first_below f n) n) _ _
     (λ h. Searched.least (record { holds = (says (first_below f n) h).means (first_passes f n h); least = earlier }))
     (λ h. Searched.none (λ k m. later k m (λ i l. first_before f n i (omega (arith, l, first_within f n, h)))))
   where
@@ -47,12 +50,12 @@ number_found f n S says among =
     later (suc i) m all = at (suc i) m i (omega (arith, among (suc i) m)) (all i (omega (arith, among (suc i) m))) refl
 
 -- A rule that found something decides, one that found nothing leaves it to the next.
-takes : {S : ℕ → Type 0} {j k : ℕ} (step : ℕ → Step) (after : Step) → Searched S k → Least S j → strikes k step after ≡ step j
+takes : {S : ℕ → Type 0} {j : ℕ} {k : Option ℕ} (step : ℕ → Step) (after : Option Step) → Searched S k → Least S j → strikes k step after ≡ Some (step j)
 unfolding strikes
 takes step after (Searched.none n) l = absurd (n _ l.holds)
-takes step after (Searched.least m) l = ap step (least_unique m l)
+takes step after (Searched.least m) l = ap (λ (i : ℕ). Some (step i)) (least_unique m l)
 
-leaves : {S : ℕ → Type 0} {k : ℕ} (step : ℕ → Step) (after : Step) → Searched S k → None S → strikes k step after ≡ after
+leaves : {S : ℕ → Type 0} {k : Option ℕ} (step : ℕ → Step) (after : Option Step) → Searched S k → None S → strikes k step after ≡ after
 unfolding strikes
 leaves step after (Searched.none n) m = refl
 leaves step after (Searched.least l) m = absurd (m _ l.holds)
@@ -65,7 +68,7 @@ module _ {pieces : List Piece} {rows : Rows} {a b : ℕ} (hold : Hold rows piece
   row : {k p q v : ℕ} → Numbered pieces (suc k) p q v → IsRow rows k p q v
   row {k} n = row_of hold.lists (sym (add-one k)) n
 
-  exact_says : (k : ℕ) → k < rows.count → Says (suits rows true (cell x y) x y k) (Exact pieces a b cell x y (suc k))
+  exact_says : (k : ℕ) → k < rows.count → Says (suits rows (is_size rows x y) (cell x y) k) (Exact pieces a b cell x y (suc k))
   unfolding suits
   exact_says k h =
       let n = numbered k h in
@@ -75,7 +78,7 @@ module _ {pieces : List Piece} {rows : Rows} {a b : ℕ} (hold : Hold rows piece
       )
       (says_and (says_eq (rows.value k) (cell x y)) (says_and (says_eq (rows.width k) x) (says_eq (rows.height k) y)))
 
-  fitting_says : (k : ℕ) → k < rows.count → Says (suits rows false (cell x y) x y k) (Fitting pieces a b cell x y (suc k))
+  fitting_says : (k : ℕ) → k < rows.count → Says (suits rows (fits_in rows x y) (cell x y) k) (Fitting pieces a b cell x y (suc k))
   unfolding suits
   fitting_says k h =
       says_iff (
@@ -106,11 +109,11 @@ module _ {pieces : List Piece} {rows : Rows} {a b : ℕ} (hold : Hold rows piece
       at_rest tall k m = subst (λ (r : ℕ). held tall (suc k) + held tall r ≡ cell x y) m.tried.line.leaves m.sum
 
   -- What the searches find.
-  exact_found : Searched (Exact pieces a b cell x y) (first_piece rows true (cell x y) x y)
+  exact_found : Searched (Exact pieces a b cell x y) (first_piece rows (is_size rows x y) (cell x y))
   unfolding first_piece
   exact_found = number_found _ rows.count _ exact_says (λ k m. (m.first, omega (arith, m.last, hold.lists.count)))
 
-  fitting_found : Searched (Fitting pieces a b cell x y) (first_piece rows false (cell x y) x y)
+  fitting_found : Searched (Fitting pieces a b cell x y) (first_piece rows (fits_in rows x y) (cell x y))
   unfolding first_piece
   fitting_found = number_found _ rows.count _ fitting_says (λ k m. (m.numbered.first, omega (arith, m.numbered.last, hold.lists.count)))
 
@@ -119,30 +122,30 @@ module _ {pieces : List Piece} {rows : Rows} {a b : ℕ} (hold : Hold rows piece
   line_found tall = number_found _ (crossed tall x y / 2) _ (adds_say tall) (λ k m. (m.tried.line.least, omega (arith, m.tried.half)))
 
   -- The rules in their order: which step is taken where the part is free, and exactly when.
-  pub data Strikes : Step → Type 0 where
-    rule1 : cell x y ≡ 0 → Strikes Step.Scrap
-    rule2 : {k : ℕ} → (cell x y ≡ 0 → ⊥) → Least (Exact pieces a b cell x y) k → Strikes (Step.Piece k)
-    rule3 : {c : ℕ} → (cell x y ≡ 0 → ⊥) → None (Exact pieces a b cell x y) → Least (AddsUp pieces a b cell false x y) c → Strikes (Step.Line false c free)
+  pub data Strikes : Option Step → Type 0 where
+    rule1 : cell x y ≡ 0 → Strikes (Some Step.Scrap)
+    rule2 : {k : ℕ} → (cell x y ≡ 0 → ⊥) → Least (Exact pieces a b cell x y) k → Strikes (Some (Step.Piece k))
+    rule3 : {c : ℕ} → (cell x y ≡ 0 → ⊥) → None (Exact pieces a b cell x y) → Least (AddsUp pieces a b cell false x y) c → Strikes (Some (Step.Line false c Wanted.Free))
     rule4 : {d : ℕ} → (cell x y ≡ 0 → ⊥) → None (Exact pieces a b cell x y) → None (AddsUp pieces a b cell false x y)
-        → Least (AddsUp pieces a b cell true x y) d → Strikes (Step.Line true d free)
+        → Least (AddsUp pieces a b cell true x y) d → Strikes (Some (Step.Line true d Wanted.Free))
     rule5 : {k : ℕ} → (cell x y ≡ 0 → ⊥) → None (Exact pieces a b cell x y) → None (AddsUp pieces a b cell false x y) → None (AddsUp pieces a b cell true x y)
-        → Least (Fitting pieces a b cell x y) k → Strikes (cut_out rows x y k)
+        → Least (Fitting pieces a b cell x y) k → Strikes (Some (cut_out rows x y k))
     rule6 : (cell x y ≡ 0 → ⊥) → None (Exact pieces a b cell x y) → None (AddsUp pieces a b cell false x y) → None (AddsUp pieces a b cell true x y)
-        → None (Fitting pieces a b cell x y) → Strikes Step.Struck
+        → None (Fitting pieces a b cell x y) → Strikes nothing
 
-  -- The steps of rules 6.2 to 6.6, by the numbers that the searches answer.
-  abbrev later_rules : ℕ → ℕ → ℕ → ℕ → Step
+  -- The steps of rules 6.2 to 6.6, by what the searches answer.
+  abbrev later_rules : Option ℕ → Option ℕ → Option ℕ → Option ℕ → Option Step
   later_rules e c d f =
-      strikes e Step.Piece (strikes c (λ k. Step.Line false k free) (strikes d (λ k. Step.Line true k free) (strikes f (cut_out rows x y) Step.Struck)))
+      strikes e Step.Piece (strikes c (λ k. Step.Line false k Wanted.Free) (strikes d (λ k. Step.Line true k Wanted.Free) (strikes f (cut_out rows x y) nothing)))
 
-  in_order : (n e c d f : ℕ) → n ≡ cell x y → Searched (Exact pieces a b cell x y) e → Searched (AddsUp pieces a b cell false x y) c
+  in_order : (n : ℕ) (e c d f : Option ℕ) → n ≡ cell x y → Searched (Exact pieces a b cell x y) e → Searched (AddsUp pieces a b cell false x y) c
       → Searched (AddsUp pieces a b cell true x y) d → Searched (Fitting pieces a b cell x y) f
-      → Strikes (cond (eqb n 0) Step.Scrap (later_rules e c d f))
+      → Strikes (cond (eqb n 0) (Some Step.Scrap) (later_rules e c d f))
   unfolding strikes
   in_order n e c d f is found across up fitting =
       either_way Strikes (says_eq n 0) _ _ (λ h. Strikes.rule1 (sym is ∙ h)) (λ h. go found across up fitting (λ z. h (is ∙ z)))
     where
-      go : {e c d f : ℕ} → Searched (Exact pieces a b cell x y) e → Searched (AddsUp pieces a b cell false x y) c → Searched (AddsUp pieces a b cell true x y) d
+      go : {e c d f : Option ℕ} → Searched (Exact pieces a b cell x y) e → Searched (AddsUp pieces a b cell false x y) c → Searched (AddsUp pieces a b cell true x y) d
           → Searched (Fitting pieces a b cell x y) f → (cell x y ≡ 0 → ⊥)
           → Strikes (later_rules e c d f)
       go (Searched.least l) p q r z = Strikes.rule2 z l
@@ -156,7 +159,7 @@ module _ {pieces : List Piece} {rows : Rows} {a b : ℕ} (hold : Hold rows piece
   ruled_strikes = in_order (cell x y) _ _ _ _ refl exact_found (line_found false) (line_found true) fitting_found
 
   -- And no other step is taken.
-  pub strikes_only : {s : Step} → Strikes s → ruled rows cell x y (cell x y) ≡ s
+  pub strikes_only : {s : Option Step} → Strikes s → ruled rows cell x y (cell x y) ≡ s
   unfolding ruled
   strikes_only (Strikes.rule1 z) = chosen (says_eq (cell x y) 0) _ _ z
   strikes_only (Strikes.rule2 z l) = not_chosen (says_eq (cell x y) 0) _ _ z ∙ takes _ _ exact_found l

@@ -1,131 +1,123 @@
 -- A step of the walk: what it may rely on at the two parts of a line, and what it makes of their answers.
-use Prim.Native.Nat.{ℕ, ◌≤◌, ◌<◌}
-use mathlib.Core.Bool.{Bool}
-use mathlib.Core.Path.{◌≡◌, refl, sym, ap, ap₂, ◌∙◌, subst}
-use mathlib.Core.List.{List, ◌++◌}
-use mathlib.Core.Logic.{inl, inr}
-use native.Mathlib.Omega.{arith}
-use Rattle.laws.proofs.Says.{says_eq}
-use Rattle.laws.proofs.Choice.{either_way}
+use Rattle.std.proofs.Common.{◌≡◌, ℕ, ◌≤◌, ◌<◌, Bool, List, ◌++◌, Option, Some, None, unwrap_or, refl, sym, ap, ◌∙◌, subst, arith}
+use Rattle.cutting.specs.Piece.{Inside}
 use Rattle.cutting.specs.Dissection.{rest, crossed, part_width, part_height, Line}
-use Rattle.cells.specs.Cells.{cell_of}
-use Rattle.board.specs.Inner.{Rows, rows_on, width_on}
+use Rattle.cutting.proofs.Tree.{line_far, part_inside}
+use Rattle.cells.specs.Inner.{Holds}
+use Rattle.board.specs.declared.Board.{Board}
+use Rattle.board.specs.Inner.{rows_on, width_on, height_on}
 use Rattle.nodes.specs.Encoding.{encode}
+use Rattle.tracer.specs.declared.Wanted.{Wanted}
 use Rattle.tracer.specs.declared.Step.{Step}
-use Rattle.tracer.specs.Inner.{free, WantedPart, beyond, near_wanted, far_wanted, sides_of, step_in, traced, measured, node_of, leaf_length, together, length_most, Wanted, Traceable}
+use Rattle.tracer.specs.Inner.{WantedPart, part_of, beyond, near_wanted, far_wanted, sides_of, step_in, traced, measured, node_of, length_most, Among, Traceable}
 use Rattle.laws.specs.Inner.{Room, Wrote}
-use Rattle.tracer.proofs.Parts.{part_table}
-use Rattle.laws.proofs.Wrote.{wrote_as}
 use Rattle.tracer.proofs.Wrote.{near_room, far_room, wrote_line}
-use Rattle.tracer.proofs.Traced.{IsLeaf, step_inside, step_among, near_less, far_less, measured_leaf, measured_line, measured_most, nodes_leaf, nodes_line}
+use Rattle.tracer.proofs.Traced.{MeasuredLine, step_inside, step_among, near_less, far_less, measured_line, measured_most, nodes_line}
 
--- The code's test that the step s is no line.
-abbrev NoLine : Step → Type 0
-NoLine s = (tall : Bool) (c wanted : ℕ) → s ≡ Step.Line tall c wanted → ⊥
+scrap-line : {tall : Bool} {c : ℕ} {wanted : Wanted} → Step.Scrap ≡ Step.Line tall c wanted → ⊥
+scrap-line e = cc
 
-leaf_unless_line : (s : Step) → NoLine s → IsLeaf s
-leaf_unless_line Step.Scrap h = tt
-leaf_unless_line (Step.Piece k) h = tt
-leaf_unless_line Step.Struck h = tt
-leaf_unless_line (Step.Line tall c wanted) h = absurd (h tall c wanted refl)
+beyond_among : (board : Board) (wanted : Wanted) → Among (rows_on board) (beyond wanted)
+beyond_among board Wanted.Free = tt
+beyond_among board (Wanted.Piece k) = tt
+beyond_among board Wanted.Waste = tt
 
-beyond_wanted : (rows : Rows) (wanted : ℕ) → Wanted rows (beyond wanted)
-beyond_wanted rows wanted = either_way (Wanted rows) (says_eq wanted free) _ _ (λ _. inl (omega arith)) (λ _. inr refl)
+-- The code's step s is a line where it is there, or where scrap would stand for it.
+pub some_line : {s found : Option Step} {t u : Step} → s ≡ found → s ≡ Some t → t ≡ u → found ≡ Some u
+some_line e f g = sym e ∙ (f ∙ ap Some g)
 
--- The lengths of a line's two parts are short, and together they are the whole's.
-pub record Answered (rows : Rows) (cell : ℕ → ℕ → ℕ) (p : WantedPart) (m n : ℕ) : Type 0 where
-  pub short : (m ≤ length_most) × (n ≤ length_most)
-  pub whole : {k : ℕ} → k ≡ together m n → k ≡ measured rows cell p
+pub line_or_scrap : {s found : Option Step} {t : Step} {tall : Bool} {c : ℕ} {wanted : Wanted} → s ≡ found → t ≡ unwrap_or s Step.Scrap
+    → t ≡ Step.Line tall c wanted → found ≡ Some (Step.Line tall c wanted)
+line_or_scrap {s = None} e f g = absurd (scrap-line (sym f ∙ g))
+line_or_scrap {s = Some u} e f g = some_line e (ap Some (sym f)) g
 
--- The code found the step s.
-module _ {board t : List ℕ} {p : WantedPart} (ready : Traceable board t p) {s : Step} (found : s ≡ step_in (rows_on board) (cell_of (width_on board) t) p) where
-  abbrev rows : Rows
-  rows = rows_on board
+-- No part measures more than the whole table may.
+pub part_short : {board : Board} {t : List ℕ} {p : WantedPart} (cell : ℕ → ℕ → ℕ) {k : Option ℕ} {n : ℕ} → Traceable board p → Holds (width_on board) (height_on board) t
+    → k ≡ measured (rows_on board) cell p → k ≡ Some n → n ≤ length_most
+part_short {board} {p = p} cell r h e f =
+    let i = r.inside in
+    measured_most (rows_on board) cell p i.width_least (omega arith) i.height_least (omega arith) (sym e ∙ f)
 
-  abbrev cell : ℕ → ℕ → ℕ
-  cell = cell_of (width_on board) t
+-- The two parts of a line at c as the code made them: k stands for c, r for what it leaves of the side, and the sides are w by h.
+pub record NearPart (p : WantedPart) (tall : Bool) (c k w h : ℕ) : Type 0 where
+  pub place : k ≡ c
+  pub width : w ≡ part_width tall p.width k
+  pub height : h ≡ part_height tall p.height k
 
-  pub leaf_measured : {r : ℕ} → NoLine s → r ≡ leaf_length s → r ≡ measured rows cell p
-  leaf_measured l e = e ∙ measured_leaf rows cell p s (leaf_unless_line s l) (sym found)
+pub record FarPart (p : WantedPart) (tall : Bool) (c : ℕ) (wanted : Wanted) (k side r w h : ℕ) (b : Wanted) : Type 0 where
+  pub place : k ≡ c
+  pub across : side ≡ crossed tall p.width p.height
+  pub leaves : r ≡ rest side k
+  pub width : w ≡ part_width tall p.width r
+  pub height : h ≡ part_height tall p.height r
+  pub is : b ≡ beyond wanted
 
-  pub leaf_written : {o q : List ℕ} {at n : ℕ} → NoLine s → Wrote o at (node_of s) n q → Wrote o at (encode (traced rows cell p)) n q
-  leaf_written l = wrote_as (nodes_leaf rows cell p s (leaf_unless_line s l) (sym found))
+-- The code found a line.
+module _ {board : Board} {p : WantedPart} (ready : Traceable board p) (cell : ℕ → ℕ → ℕ) {tall : Bool} {c : ℕ} {wanted : Wanted}
+    (step : step_in (rows_on board) cell p ≡ Some (Step.Line tall c wanted)) where
+  pub line_inside : Line (crossed tall p.width p.height) c (rest (crossed tall p.width p.height) c)
+  line_inside = step_inside (rows_on board) cell p step
 
-  short : {u v : WantedPart} {k : ℕ} → Traceable board t v → u ≡ v → k ≡ measured rows cell u → k ≤ length_most
-  short {v = v} a e f =
-      let most = measured_most rows cell v (omega (arith, a.table)) (omega (arith, a.table)) (omega (arith, a.table)) (omega (arith, a.table)) in
-      omega (arith, most, f ∙ ap (measured rows cell) e)
+  part_in : {d : ℕ} → 1 ≤ d → d ≤ crossed tall p.width p.height
+      → Inside (part_width tall p.width d) (part_height tall p.height d) (width_on board) (height_on board)
+  part_in {d} l h =
+      let i = part_inside tall p.width p.height d ready.inside.width_least ready.inside.height_least l h in
+      omega (arith, i, ready.inside)
 
-  -- It is a line.
-  module _ {tall : Bool} {c wanted : ℕ} (line : s ≡ Step.Line tall c wanted) where
-    step : step_in rows cell p ≡ Step.Line tall c wanted
-    step = sym found ∙ line
+  near_ready : Traceable board (near_wanted tall c wanted p)
+  near_ready =
+      record { wanted = step_among (rows_on board) cell p ready.wanted step; inside = part_in line_inside.least (omega (arith, line_inside)) }
 
-    pub line_inside : Line (crossed tall p.width p.height) c (rest (crossed tall p.width p.height) c)
-    line_inside = step_inside rows cell p step
+  far_ready : Traceable board (far_wanted tall c wanted p)
+  far_ready = record { wanted = beyond_among board wanted; inside = part_in (line_far line_inside) (omega arith) }
 
-    part_ready : {d m : ℕ} → 1 ≤ d → d ≤ crossed tall p.width p.height → Wanted rows m
-        → Traceable board t (record { width = part_width tall p.width d; height = part_height tall p.height d; wanted = m })
-    part_ready l h w = record { few = ready.few; sized = ready.sized; wanted = w; table = part_table ready.table tall l h refl refl }
+  called : {n : ℕ} {q u : WantedPart} → Traceable board u → sides_of u < sides_of p → q ≡ u → sides_of p ≡ n → (sides_of q < n) × Traceable board q
+  called {n} a h e g = subst (λ (v : WantedPart). (sides_of v < n) × Traceable board v) (sym e) (omega arith, a)
 
-    near_ready : Traceable board t (near_wanted tall c wanted p)
-    near_ready = part_ready line_inside.least (omega (arith, line_inside)) (inl (step_among rows cell p ready.wanted step))
+  near_is : {k w h : ℕ} → NearPart p tall c k w h → part_of w h wanted ≡ near_wanted tall c wanted p
+  near_is n = let e = n.place in let f = n.width in let g = n.height in cc
 
-    far_ready : Traceable board t (far_wanted tall c wanted p)
-    far_ready = part_ready (omega (arith, line_inside)) (omega arith) (beyond_wanted rows wanted)
+  far_is : {k side r w h : ℕ} {b : Wanted} → FarPart p tall c wanted k side r w h b → part_of w h b ≡ far_wanted tall c wanted p
+  far_is n = let e = n.place in let f = n.across in let g = n.leaves in let i = n.width in let j = n.height in let l = n.is in cc
 
-    called : {n : ℕ} {q u : WantedPart} → Traceable board t u → sides_of u < sides_of p → q ≡ u → sides_of p ≡ n → (sides_of q < n) × Traceable board t q
-    called {n} a h e g = subst (λ (v : WantedPart). (sides_of v < n) × Traceable board t v) (sym e) (omega arith, a)
+  pub near_call : {k w h : ℕ} → NearPart p tall c k w h → {n : ℕ} → sides_of p ≡ n → (sides_of (part_of w h wanted) < n) × Traceable board (part_of w h wanted)
+  near_call near = called near_ready (near_less tall c wanted p line_inside) (near_is near)
 
-    line_nodes : {q r : WantedPart} → q ≡ near_wanted tall c wanted p → r ≡ far_wanted tall c wanted p
-        → encode (traced rows cell p) ≡ node_of s ++ (encode (traced rows cell q) ++ encode (traced rows cell r))
-    line_nodes e f = nodes_line rows cell p step ∙ cc
+  pub far_call : {k side r w h : ℕ} {b : Wanted} → FarPart p tall c wanted k side r w h b → {n : ℕ} → sides_of p ≡ n
+      → (sides_of (part_of w h b) < n) × Traceable board (part_of w h b)
+  far_call far = called far_ready (far_less tall c wanted p line_inside) (far_is far)
 
-    -- The near part as the code found it: w by h, with k for the line's place.
-    module _ {k w h : ℕ} (place : k ≡ c) (width : w ≡ part_width tall p.width k) (height : h ≡ part_height tall p.height k) where
-      abbrev near : WantedPart
-      near = record { width = w; height = h; wanted = wanted }
+  -- What the line measures by its parts.
+  pub near_measures : {k w h : ℕ} → NearPart p tall c k w h
+      → MeasuredLine (measured (rows_on board) cell (part_of w h wanted)) (measured (rows_on board) cell (far_wanted tall c wanted p)) (measured (rows_on board) cell p)
+  near_measures near = rw (near_is near) (measured_line (rows_on board) cell p step)
 
-      near_is : near ≡ near_wanted tall c wanted p
-      near_is = cc
+  pub parts_measure : {k w h : ℕ} → NearPart p tall c k w h → {side r u v : ℕ} {b : Wanted} → FarPart p tall c wanted k side r u v b
+      → MeasuredLine (measured (rows_on board) cell (part_of w h wanted)) (measured (rows_on board) cell (part_of u v b)) (measured (rows_on board) cell p)
+  parts_measure near far = rw (near_is near, far_is far) (measured_line (rows_on board) cell p step)
 
-      pub near_call : {n : ℕ} → sides_of p ≡ n → (sides_of near < n) × Traceable board t near
-      near_call = called near_ready (near_less tall c wanted p line_inside) near_is
+  -- The nodes of its parts q and r, behind that of the step s, which is the line.
+  line_nodes : {q r : WantedPart} {s : Step} → s ≡ Step.Line tall c wanted → q ≡ near_wanted tall c wanted p → r ≡ far_wanted tall c wanted p
+      → encode (traced (rows_on board) cell p) ≡ node_of s ++ (encode (traced (rows_on board) cell q) ++ encode (traced (rows_on board) cell r))
+  line_nodes e near far = rw (e, near, far) (nodes_line (rows_on board) cell p step)
 
-      -- Its node is written: there is room for the near part.
-      module _ {o : List ℕ} {at : ℕ} (room : Room o at (encode (traced rows cell p))) {m : ℕ} {o2 : List ℕ} (first : Wrote o at (node_of s) m o2) where
-        pub near_write : {n : ℕ} → sides_of p ≡ n → (sides_of near < n) × (Traceable board t near × Room o2 m (encode (traced rows cell near)))
-        near_write e =
-            let call = near_call e in
-            (call.0, (call.1, near_room _ _ _ (line_nodes near_is refl) room first))
+  -- The line's node is written: there is room for the near part, then for the far part, and with that the line is written.
+  module _ {s : Step} (is : s ≡ Step.Line tall c wanted) {k w h : ℕ} (near : NearPart p tall c k w h)
+      {o o2 : List ℕ} {at m : ℕ} (room : Room o at (encode (traced (rows_on board) cell p))) (first : Wrote o at (node_of s) m o2) where
+    pub near_write : {n : ℕ} → sides_of p ≡ n
+        → (sides_of (part_of w h wanted) < n) × (Traceable board (part_of w h wanted) × Room o2 m (encode (traced (rows_on board) cell (part_of w h wanted))))
+    near_write e =
+        let call = near_call near e in
+        (call.0, (call.1, near_room _ _ _ (line_nodes is (near_is near) refl) room first))
 
-      -- The far part as the code found it: u by v, with r for what the line leaves of the side.
-      module _ {side r u v b : ℕ} (across : side ≡ crossed tall p.width p.height) (leaves : r ≡ rest side k)
-          (width2 : u ≡ part_width tall p.width r) (height2 : v ≡ part_height tall p.height r) (wanted2 : b ≡ beyond wanted) where
-        abbrev far : WantedPart
-        far = record { width = u; height = v; wanted = b }
+    module _ {side r u v : ℕ} {b : Wanted} (far : FarPart p tall c wanted k side r u v b)
+        {o3 : List ℕ} {j : ℕ} (second : Wrote o2 m (encode (traced (rows_on board) cell (part_of w h wanted))) j o3) where
+      pub far_write : {n : ℕ} → sides_of p ≡ n
+          → (sides_of (part_of u v b) < n) × (Traceable board (part_of u v b) × Room o3 j (encode (traced (rows_on board) cell (part_of u v b))))
+      far_write e =
+          let call = far_call far e in
+          (call.0, (call.1, far_room _ _ _ (line_nodes is (near_is near) (far_is far)) room first second))
 
-        far_is : far ≡ far_wanted tall c wanted p
-        far_is = cc
-
-        pub far_call : {n : ℕ} → sides_of p ≡ n → (sides_of far < n) × Traceable board t far
-        far_call = called far_ready (far_less tall c wanted p line_inside) far_is
-
-        -- What the two parts measure.
-        pub answered : {m n : ℕ} → m ≡ measured rows cell near → n ≡ measured rows cell far → Answered rows cell p m n
-        answered e f =
-            record {
-              short = (short near_ready near_is e, short far_ready far_is f);
-              whole = λ g. g ∙ (ap₂ together (e ∙ ap (measured rows cell) near_is) (f ∙ ap (measured rows cell) far_is) ∙ measured_line rows cell p step);
-            }
-
-        -- Its node and its near part are written: there is room for the far part, and with that the line is written.
-        module _ {o : List ℕ} {at : ℕ} (room : Room o at (encode (traced rows cell p))) {m k2 : ℕ} {o2 o3 : List ℕ}
-            (first : Wrote o at (node_of s) m o2) (second : Wrote o2 m (encode (traced rows cell near)) k2 o3) where
-          pub far_write : {n : ℕ} → sides_of p ≡ n → (sides_of far < n) × (Traceable board t far × Room o3 k2 (encode (traced rows cell far)))
-          far_write e =
-              let call = far_call e in
-              (call.0, (call.1, far_room _ _ _ (line_nodes near_is far_is) room first second))
-
-          pub line_written : {l : ℕ} {o4 : List ℕ} → Wrote o3 k2 (encode (traced rows cell far)) l o4 → Wrote o at (encode (traced rows cell p)) l o4
-          line_written third = wrote_line _ _ _ (line_nodes near_is far_is) room first second third
+      pub line_written : {l : ℕ} {o4 : List ℕ} → Wrote o3 j (encode (traced (rows_on board) cell (part_of u v b))) l o4
+          → Wrote o at (encode (traced (rows_on board) cell p)) l o4
+      line_written third = wrote_line _ _ _ (line_nodes is (near_is near) (far_is far)) room first second third

@@ -1,3 +1,4 @@
 -- The tree for a rectangle by the tree rules, and its nodes.
 pub mod Rules
 pub mod Inner
+pub mod Table

@@ -1,21 +1,41 @@
 // The tree for a rectangle by the tree rules.
-// search.rt: the first piece and the least line; next.rt: the next step in a part; walk.rt: the length of the nodes, and the nodes.
+// table.rt: what it is read from; search.rt: the first piece and the least line; next.rt: the next step in a part;
+// walk.rt: the length of the nodes, and the nodes.
 #![tactic(auto)]
+
+ghost use Rattle.std.specs.Prelude.{◌≡◌};
 
 mod next;
 mod search;
+pub mod table;
 pub mod walk;
 
-// What is wanted of a part: whatever the rules say, a piece cut out of it (its number, from 1), or nothing.
-pub const FREE: u16 = 0;
-
-pub const WASTE: u16 = 65_535;
+// What is wanted of a part: whatever the rules say, the piece with this number cut out of it, or nothing.
+#[derive(Clone, Copy, Debug, PartialEq, Eq)]
+pub enum Wanted {
+    Free,
+    Piece(u16),
+    Waste,
+}
 
 // The next step in a part. A line has its direction (true for a horizontal one), its place, and what is wanted of its near part.
-#[derive(Clone, Copy)]
+#[derive(Clone, Copy, Debug, PartialEq, Eq)]
 pub enum Step {
     Scrap,
     Piece(u16),
-    Line(bool, u16, u16),
-    Struck,
+    Line(bool, u16, Wanted),
+}
+
+impl Wanted {
+    ghost use Rattle.tracer.specs.Inner.{beyond as beyond_of};
+
+    // What is wanted of a line's far part, where this is wanted of its near one.
+    fn beyond(self) -> Wanted
+        ensures { result ≡ beyond_of self }
+    {
+        match self {
+            Wanted::Free => Wanted::Free,
+            _ => Wanted::Waste,
+        }
+    }
 }

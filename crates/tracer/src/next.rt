@@ -1,70 +1,59 @@
 // The next step in a part, by what is wanted of it.
 ghost use Rattle.std.specs.Prelude.{◌≡◌, ◌≤◌};
-ghost use Rattle.cells.specs.Cells.{cell_of};
-ghost use Rattle.board.specs.Inner.{rows_on, entries, width_on, count_on};
-ghost use Rattle.tracer.specs.Inner.{Sized, cut_out, ruled, OnTable, Traceable, step_in};
+ghost use Rattle.tracer.specs.Inner.{part_of, cut_out, ruled, Traceable, step_in};
+ghost use Rattle.tracer.specs.Table.{rows_in, cell_in, OnSheet};
 
-use crate::search::{first_piece, least_line, number_of};
-use crate::{FREE, Step, WASTE};
-use board::{Board, piece_height, piece_width};
-use fields::cast::wide;
+use crate::search::{exact_piece, fitting_piece, least_line, number_of};
+use crate::table::Table;
+use crate::{Step, Wanted};
 
 // The next step to the piece with this number: a vertical line, a horizontal one, or the piece itself.
-fn cut_out(board: &Board, width: usize, height: usize, number: u16) -> Step
-    requires le_number { (1 ≤ number) × (number ≤ count_on board.now) × (count_on board.now ≤ entries) }
-    requires sized { Sized (rows_on board.now) }
-    ensures { result ≡ cut_out (rows_on board.now) width height number }
+#[tactic(auto, unfolding(crate::specs::Inner::cut_out, crate::specs::Inner::trimmed_to, board::specs::Inner::rows_on))]
+fn cut_out(table: &Table, width: usize, height: usize, number: u16) -> Step
+    requires { (1 ≤ number) × (number ≤ (rows_in table.now).count) }
+    ensures { result ≡ cut_out (rows_in table.now) width height number }
 {
-    let k = wide(number) - 1;
-    let p = piece_width(board, k);
-    if wide(p) < width {
-        return Step::Line(false, p, number);
+    let piece = table.board.piece(usize::from(number) - 1);
+    if usize::from(piece.width) < width {
+        return Step::Line(false, piece.width, Wanted::Piece(number));
     }
-    let q = piece_height(board, k);
-    if wide(q) < height {
-        return Step::Line(true, q, number);
+    if usize::from(piece.height) < height {
+        return Step::Line(true, piece.height, Wanted::Piece(number));
     }
     Step::Piece(number)
 }
 
-// What the rules choose for a rectangle, in their order.
-fn ruled(board: &Board, cells: &[u32], width: usize, height: usize) -> Step
-    requires on_table { OnTable (width_on board.now) cells.now width height }
-    requires board_bound { (count_on board.now ≤ entries) × Sized (rows_on board.now) }
-    ensures { result ≡ ruled (rows_on board.now) (cell_of (width_on board.now) cells.now) width height (cell_of (width_on board.now) cells.now width height) }
+// What the rules choose for a rectangle, in their order; none where rule 6.6 strikes.
+fn ruled(table: &Table, width: usize, height: usize) -> Option<Step>
+    requires { OnSheet table.now width height }
+    ensures { result ≡ ruled (rows_in table.now) (cell_in table.now) width height (cell_in table.now width height) }
 {
-    let number = number_of(board, cells, width, height);
+    let number = number_of(table, width, height);
     if number == 0 {
-        return Step::Scrap;
+        return Some(Step::Scrap);
     }
-    let exact = first_piece(board, true, number, width, height);
-    if exact != 0 {
-        return Step::Piece(exact);
+    if let Some(exact) = exact_piece(table, width, height, number) {
+        return Some(Step::Piece(exact));
     }
-    let c = least_line(board, cells, false, number, width, height);
-    if c != 0 {
-        return Step::Line(false, c, FREE);
+    if let Some(c) = least_line(table, false, number, width, height) {
+        return Some(Step::Line(false, c, Wanted::Free));
     }
-    let d = least_line(board, cells, true, number, width, height);
-    if d != 0 {
-        return Step::Line(true, d, FREE);
+    if let Some(d) = least_line(table, true, number, width, height) {
+        return Some(Step::Line(true, d, Wanted::Free));
     }
-    let fitting = first_piece(board, false, number, width, height);
-    if fitting != 0 {
-        return cut_out(board, width, height, fitting);
-    }
-    Step::Struck
+    let fitting = fitting_piece(table, width, height, number)?;
+    Some(cut_out(table, width, height, fitting))
 }
 
-pub fn next_step(board: &Board, cells: &[u32], width: usize, height: usize, wanted: u16) -> Step
-    requires { Traceable board.now cells.now (record { width = width; height = height; wanted = wanted }) }
-    ensures { result ≡ step_in (rows_on board.now) (cell_of (width_on board.now) cells.now) (record { width = width; height = height; wanted = wanted }) }
+// None where rule 6.6 strikes.
+#[tactic(auto, unfolding(crate::specs::Inner::step_in, board::specs::Inner::rows_on))]
+pub fn next_step(table: &Table, width: usize, height: usize, wanted: Wanted) -> Option<Step>
+    requires { Traceable table.now.board.now (part_of width height wanted) }
+    ensures { result ≡ step_in (rows_in table.now) (cell_in table.now) (part_of width height wanted) }
 {
-    if wanted == FREE {
-        return ruled(board, cells, width, height);
+    match wanted {
+        Wanted::Free => ruled(table, width, height),
+        Wanted::Piece(number) => Some(cut_out(table, width, height, number)),
+        Wanted::Waste => Some(Step::Scrap),
     }
-    if wanted == WASTE {
-        return Step::Scrap;
-    }
-    cut_out(board, width, height, wanted)
 }

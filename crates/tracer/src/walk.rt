@@ -1,82 +1,41 @@
 // The tree of a part, step by step: first the length of its nodes, then the nodes. What a level carries is small: 479 may lie one below the other.
 ghost use Rattle.std.specs.Prelude.{◌≡◌, ◌+◌, ◌≤◌, length};
 ghost use Rattle.fields.specs.Format.{node_length};
-ghost use Rattle.cells.specs.Cells.{cell_of};
-ghost use Rattle.board.specs.Inner.{rows_on, width_on};
 ghost use Rattle.nodes.specs.Encoding.{letter_of, node, encode};
-ghost use Rattle.tracer.specs.Inner.{beyond as beyond_of, node_of, together as together_of, length_most, leaf_length, Traceable, traced, measured};
+ghost use Rattle.tracer.specs.Inner.{part_of, node_of, Traceable, traced, measured};
+ghost use Rattle.tracer.specs.Table.{rows_in, cell_in};
 ghost use Rattle.laws.specs.Inner.{Room, Wrote};
 
 use crate::next::next_step;
-use crate::{FREE, Step, WASTE};
-use board::Board;
+use crate::table::Table;
+use crate::{Step, Wanted};
 use board::line::{crossed, part_height, part_width, rest};
-use fields::cast::wide;
+use fields::Field;
 use fields::format::{HORIZONTAL, NODE_LENGTH, PIECE, SCRAP, VERTICAL};
-use fields::put2;
 
-// What is wanted of a line's far part, where this is wanted of its near one.
-fn beyond(wanted: u16) -> u16
-    ensures { result ≡ beyond_of wanted }
+// The number of bytes that the nodes of a part's tree take; none where rule 6.6 strikes in it.
+pub fn measure(table: &Table, width: usize, height: usize, wanted: Wanted) -> Option<usize>
+    requires { Traceable table.now.board.now (part_of width height wanted) }
+    ensures { result ≡ measured (rows_in table.now) (cell_in table.now) (part_of width height wanted) }
 {
-    if wanted == FREE {
-        return FREE;
-    }
-    WASTE
-}
-
-// The length of a step that is no line; 0 where rule 6.6 strikes.
-fn leaf_length(step: Step) -> usize
-    ensures { result ≡ leaf_length step }
-{
-    match step {
-        Step::Scrap => NODE_LENGTH,
-        Step::Piece(_) => NODE_LENGTH,
-        Step::Line(_, _, _) => NODE_LENGTH,
-        Step::Struck => 0,
-    }
-}
-
-// A line's node and the lengths of its two parts; 0 where one has none.
-fn together(near: usize, far: usize) -> usize
-    requires { (near ≤ length_most) × (far ≤ length_most) }
-    ensures { result ≡ together_of near far }
-{
-    if near == 0 {
-        return 0;
-    }
-    if far == 0 {
-        return 0;
-    }
-    NODE_LENGTH + near + far
-}
-
-// The number of bytes that the nodes of a part's tree take, 0 where rule 6.6 strikes in it.
-pub fn measure(board: &Board, cells: &[u32], width: usize, height: usize, wanted: u16) -> usize
-    requires { Traceable board.now cells.now (record { width = width; height = height; wanted = wanted }) }
-    ensures { result ≡ measured (rows_on board.now) (cell_of (width_on board.now) cells.now) (record { width = width; height = height; wanted = wanted }) }
-{
-    let next = next_step(board, cells, width, height, wanted);
-    let Step::Line(tall, at, near) = next else {
-        return leaf_length(next);
+    let Step::Line(tall, at, near) = next_step(table, width, height, wanted)? else {
+        return Some(NODE_LENGTH);
     };
-    let c = wide(at);
+    let c = usize::from(at);
+    let r = rest(crossed(tall, width, height), c);
     let first = measure(
-        board,
-        cells,
+        table,
         part_width(tall, width, c),
         part_height(tall, height, c),
         near,
-    );
-    let r = rest(crossed(tall, width, height), c);
+    )?;
     let second = measure(
-        board,
-        cells,
+        table,
         part_width(tall, width, r),
         part_height(tall, height, r),
-        beyond(near),
-    );
-    together(first, second)
+        near.beyond(),
+    )?;
+    Some(NODE_LENGTH + first + second)
 }
 
 // Writes one node at a place, and answers the place after it.
@@ -85,7 +44,7 @@ fn write_node(o: &mut [u8], at: usize, letter: u8, number: u16) -> usize
     ensures { Wrote o.old at (node letter number) result o.new }
 {
     o[at] = letter;
-    put2(o, at + 1, number);
+    number.put(o, at + 1);
     at + NODE_LENGTH
 }
 
@@ -93,13 +52,11 @@ fn write_node(o: &mut [u8], at: usize, letter: u8, number: u16) -> usize
 fn letter_of(tall: bool) -> u8
     ensures { result ≡ letter_of tall }
 {
-    if tall {
-        return HORIZONTAL;
-    }
-    VERTICAL
+    if tall { HORIZONTAL } else { VERTICAL }
 }
 
-// Writes the node of a step. Where rule 6.6 strikes nothing is written by anybody; scrap stands for it here.
+// Writes the node of a step.
+#[tactic(auto, unfolding(crate::specs::Inner::node_of))]
 fn write_step(o: &mut [u8], at: usize, step: Step) -> usize
     requires { at + node_length ≤ length o.old }
     ensures { Wrote o.old at (node_of step) result o.new }
@@ -108,46 +65,42 @@ fn write_step(o: &mut [u8], at: usize, step: Step) -> usize
         Step::Scrap => write_node(o, at, SCRAP, 0),
         Step::Piece(number) => write_node(o, at, PIECE, number),
         Step::Line(tall, c, _) => write_node(o, at, letter_of(tall), c),
-        Step::Struck => write_node(o, at, SCRAP, 0),
     }
 }
 
-// Writes the nodes of a part's tree at a place, and answers the place after them.
+// Writes the nodes of a part's tree at a place, and answers the place after them. Where rule 6.6 strikes nobody writes; scrap stands for it here.
 pub fn write(
-    board: &Board,
-    cells: &[u32],
+    table: &Table,
     width: usize,
     height: usize,
-    wanted: u16,
+    wanted: Wanted,
     o: &mut [u8],
     at: usize,
 ) -> usize
-    requires traceable { Traceable board.now cells.now (record { width = width; height = height; wanted = wanted }) }
-    requires room { Room o.old at (encode (traced (rows_on board.now) (cell_of (width_on board.now) cells.now) (record { width = width; height = height; wanted = wanted }))) }
-    ensures { Wrote o.old at (encode (traced (rows_on board.now) (cell_of (width_on board.now) cells.now) (record { width = width; height = height; wanted = wanted }))) result o.new }
+    requires traceable { Traceable table.now.board.now (part_of width height wanted) }
+    requires room { Room o.old at (encode (traced (rows_in table.now) (cell_in table.now) (part_of width height wanted))) }
+    ensures { Wrote o.old at (encode (traced (rows_in table.now) (cell_in table.now) (part_of width height wanted))) result o.new }
 {
-    let next = next_step(board, cells, width, height, wanted);
+    let next = next_step(table, width, height, wanted).unwrap_or(Step::Scrap);
     let after = write_step(o, at, next);
     let Step::Line(tall, place, near) = next else {
         return after;
     };
-    let c = wide(place);
+    let c = usize::from(place);
+    let r = rest(crossed(tall, width, height), c);
     let middle = write(
-        board,
-        cells,
+        table,
         part_width(tall, width, c),
         part_height(tall, height, c),
         near,
         o,
         after,
     );
-    let r = rest(crossed(tall, width, height), c);
     write(
-        board,
-        cells,
+        table,
         part_width(tall, width, r),
         part_height(tall, height, r),
-        beyond(near),
+        near.beyond(),
         o,
         middle,
     )

@@ -1,5 +1,5 @@
 -- Width plus height falls at each line.
-use Prim.Native.Nat.{◌+◌}
+use Rattle.std.proofs.Common.{◌+◌}
 use Rattle.tracer.proofs.walk.+measure.Given as goal
 
 abbrev pub decreases-measure : goal.decreases-measure

@@ -1,5 +1,5 @@
 -- Width plus height falls at each line.
-use Prim.Native.Nat.{◌+◌}
+use Rattle.std.proofs.Common.{◌+◌}
 use Rattle.tracer.proofs.walk.+write.Given as goal
 
 abbrev pub decreases-write : goal.decreases-write

@@ -1,0 +1,15 @@
+// What a tree is read from.
+ghost use Rattle.cells.specs.Inner.{Holds};
+ghost use Rattle.board.specs.Inner.{rows_on, width_on, height_on};
+ghost use Rattle.tracer.specs.Inner.{Sized};
+
+use board::Board;
+
+// The board of a job and the cells of its sheet. Every piece is at least 1 by 1, or nothing would shrink.
+#[derive(Clone, Copy)]
+pub struct Table<'a> {
+    pub board: &'a Board,
+    pub cells: &'a [u32],
+    ghost sized: { Sized (rows_on board.now) },
+    ghost holds: { Holds (width_on board.now) (height_on board.now) cells.now },
+}

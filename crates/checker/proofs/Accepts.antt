@@ -25,7 +25,8 @@ use Rattle.job.proofs.Pieces.{pieces-length, pieces-job_of}
 use Rattle.job.proofs.Range.{job_says, job_of_in_range}
 use Rattle.job.proofs.Blocks.{shape_says, block-length, from_block_of_block, block_written, range_fits}
 use Rattle.nodes.specs.Encoding.{encode}
-use Rattle.nodes.specs.Reads.{Tally, tally_of}
+use Rattle.nodes.specs.declared.Tally.{Tally}
+use Rattle.nodes.specs.Reads.{tally_of}
 use Rattle.nodes.specs.Inner.{Part}
 use Rattle.nodes.proofs.Encoding.{encode_least, valid_written}
 use Rattle.nodes.proofs.Exactly.{complete}
@@ -150,7 +151,7 @@ module _ (note : List ℕ) (job : Job) (tree : Tree) (range : JobInRange job) (v
   unfolding tally_of
   plan_accepted =
       judges file framed_file (sym ((sum_says file).found sum_file)) agreed_file
-      (judged_yes file _ (leaves_read file _ (sym nodes_file) refl) (sym value_at_lem) (sym note_at))
+      (judged_yes file _ (leaves_read file (sym nodes_file)) (sym value_at_lem) (sym note_at))
       ∙ ap checked (sym is_laid)
 
 -- What lies behind m in the first n of a list.

@@ -21,15 +21,16 @@ use Rattle.job.specs.Block.{job_in, piece_in, count_in}
 use Rattle.job.specs.Inner.{from_block, block_shape}
 use Rattle.job.proofs.Pieces.{pieces-length}
 use Rattle.job.proofs.Blocks.{shape_says}
-use Rattle.nodes.specs.Reads.{Tally, ReadAs}
-use Rattle.nodes.specs.Inner.{Part}
+use Rattle.nodes.specs.declared.Tally.{Tally}
+use Rattle.nodes.specs.Reads.{ReadAs}
+use Rattle.nodes.specs.Inner.{Part, read_of}
 use Rattle.nodes.proofs.Exactly.{exactly}
 use Rattle.nodes.proofs.Own.{never_read, place_same}
 use Rattle.checker.specs.Fields.{trailer_at, block_distance, nodes_distance, stated_value, note_length, nodes_at, block_bytes, before_trailer, job_at, count_at}
 use Rattle.checker.specs.Checked.{Checked, Framed, whole_sheet}
 use Rattle.checker.specs.Inner.{sum_agrees, agreed, nodes_read, leaves_of, valued, judged, judged_job, checked}
 use Rattle.checker.specs.Given.{SumTrue, JobFits, NodesObey, Given}
-use Rattle.checker.proofs.Stages.{framed_says, sum_says, agreed_tells, agreed_found, leaves_read, leaves_broken, leaves_left, judged_none, judged_value, judged_yes, refuses_9, refuses_10, refuses_11, judges}
+use Rattle.checker.proofs.Stages.{framed_says, sum_says, agreed_tells, agreed_found, leaves_none, leaves_left, leaves_read, judged_none, judged_value, judged_yes, refuses_9, refuses_10, refuses_11, judges}
 
 pub bytes_take : (n : ℕ) (s : List ℕ) → Bytes s → Bytes (take n s)
 bytes_take n s b k = go (le_or_lt n k)
@@ -133,9 +134,10 @@ module _ (file : List ℕ) (bytes : Bytes file) where
 
   -- What was read, where it is refused with 12: not up to the trailer.
   broken : (j : JobFits file) → ((t : Tally) → NodesObey file t → ⊥) → (q : Part) → nodes_read file (job_at file) ≡ q → leaves_of file q ≡ None
-  broken j n Part.Broken e = leaves_broken file refl
+  unfolding read_of
+  broken j n Part.Broken e = sym (leaves_none file Part.Broken refl)
   broken j n (Part.Read k t) e =
-      leaves_left file refl (λ d. n t ((nodes_exactly file bytes j (trailer_at file) t).0 (e ∙ ap (λ (m : ℕ). Part.Read m t) d)))
+      sym (leaves_left file (Part.Read k t) refl (λ d. n t ((nodes_exactly file bytes j (trailer_at file) t).0 (e ∙ ap (λ (m : ℕ). Part.Read m t) d))))
 
   -- Where the list gives an answer, it is check's.
   pub only : {r : Checked} → Given file r → r ≡ checked file
@@ -146,10 +148,10 @@ module _ (file : List ℕ) (bytes : Bytes file) where
       judges file f (sum_true s) (fits_found file f j) (judged_none file _ (broken j n (nodes_read file (job_at file)) refl))
   only (Given.thirteen {t} f s j o v) =
       judges file f (sum_true s) (fits_found file f j)
-      (judged_value file _ (leaves_read file _ ((nodes_exactly file bytes j (trailer_at file) t).1 o) refl) v)
+      (judged_value file _ (leaves_read file ((nodes_exactly file bytes j (trailer_at file) t).1 o)) v)
   only (Given.accepted {t} f s j o v) =
       judges file f (sum_true s) (fits_found file f j)
-      (judged_yes file _ (leaves_read file _ ((nodes_exactly file bytes j (trailer_at file) t).1 o) refl) v refl)
+      (judged_yes file _ (leaves_read file ((nodes_exactly file bytes j (trailer_at file) t).1 o)) v refl)
 
   -- When each answer is given, exactly: the refusals (rules 7.9 to 7.13) and the accepted ones (rule 8.11).
   pub given_exactly : (r : Checked) → (checked file ≡ r) ↔ Given file r

@@ -2,8 +2,8 @@
 use Prim.Native.Nat.{ℕ, ◌+◌, ◌-◌, ◌*◌, ◌≤◌}
 use mathlib.Core.Bool.{Bool, true, false}
 use mathlib.Core.Path.{◌≡◌, refl, sym, ap, ap₂, subst, ◌∙◌}
-use Rattle.std.proofs.Common.{Option, Some, None, Err, ok_or}
-use Rattle.refusals.specs.declared.Refusal.{Refusal}
+use Rattle.std.proofs.Common.{Option, MatchOption, cond, Some, None}
+use Rattle.std.specs.Bool.{then_some}
 use Rattle.std.proofs.lemmas.Option.{cond_some, none-some}
 use mathlib.Core.List.{List}
 use native.Mathlib.Omega.{arith}
@@ -17,18 +17,20 @@ use Rattle.cutting.specs.Piece.{Piece}
 use Rattle.fields.specs.Number.{number4_of}
 use Rattle.fields.specs.Sum.{sum_of}
 use Rattle.job.specs.declared.Job.{Job}
-use Rattle.job.specs.declared.Blocked.{Blocked}
 use Rattle.job.specs.Job.{pieces_of}
 use Rattle.job.specs.Range.{JobInRange}
 use Rattle.job.specs.Inner.{job_in_range, from_block, block_shape}
 use Rattle.job.specs.Block.{job_in, BlockShape}
-use Rattle.job.proofs.Pieces.{pieces-length}
 use Rattle.job.proofs.Range.{job_says}
 use Rattle.job.proofs.Blocks.{shape_says}
+use Rattle.board.specs.declared.Board.{Board}
 use Rattle.board.specs.Inner.{pieces_on, pieces_board}
 use Rattle.board.proofs.Holds.{pieces_read}
-use Rattle.nodes.specs.Reads.{Tally, frame}
-use Rattle.nodes.specs.Inner.{Part, part_at, tally, no_sums, tally_in, grown, ReadsTo, MayRead}
+use Rattle.nodes.specs.declared.Tally.{Tally}
+use Rattle.nodes.specs.Reads.{frame}
+use Rattle.nodes.specs.Inner.{Part, part_at, no_leaves, read_of, MayRead}
+use Rattle.nodes.specs.declared.Reading.{Reading}
+use Rattle.nodes.proofs.Answers.{read_back, broken_back}
 use Rattle.refusals.specs.Refusals.{not_framed, sum_differs, job_out_of_range, nodes_broken, value_differs}
 use Rattle.fields.specs.Format.{file_least, file_most, distance_least}
 use Rattle.checker.specs.Fields.{trailer_at, block_distance, nodes_distance, stated_value, stated_sum, note_length, nodes_at, summed_bytes, block_bytes}
@@ -57,12 +59,12 @@ sum_done file {start} {end} f e d g h =
     ap₂ eqb (g ∙ ap₂ (λ (n k : ℕ). sum_of (take n (drop k file))) part e) (h ∙ ap (number4_of file) place)
 
 -- 11
-pub block_done : (file : List ℕ) {start end : ℕ} {r : Blocked} → start ≡ note_length file → end ≡ note_length file + (block_distance file - nodes_distance file)
-    → r ≡ from_block (take (end - start) (drop start file)) → r ≡ from_block (block_bytes file)
+pub block_done : (file : List ℕ) {start end : ℕ} → start ≡ note_length file → end ≡ note_length file + (block_distance file - nodes_distance file)
+    → take (end - start) (drop start file) ≡ block_bytes file
 unfolding block_bytes
-block_done file {start} {end} e d g =
+block_done file {start} {end} e d =
     let part : end - start ≡ block_distance file - nodes_distance file = omega arith in
-    g ∙ ap₂ (λ (n k : ℕ). from_block (take n (drop k file))) part e
+    ap₂ (λ (n k : ℕ). take n (drop k file)) part e
 
 -- What stage 11 passes on.
 pub record Agreed (file : List ℕ) (job : Job) : Type 0 where
@@ -81,60 +83,65 @@ agreed_tells file {job} h = go (block_shape (block_bytes file)) refl
         record { shape = (shape_says s).means e; same = sym both.1; range = subst JobInRange both.1 ((job_says (job_in s)).means both.0) }
     go false e = absurd (none-some job (rw e at h))
 
--- The test of a block, then that of its job.
-pub agreed_shapeless : (b : Blocked) → b.ok ≡ false → None ≡ agreed b
+pub filtered : (o r : Option Job) {P : Job → Bool → Type 0} → ((x : Job) (b : Bool) → P x b → b ≡ job_in_range x)
+    → MatchOption o (r ≡ None) (λ x. (b : Bool) × P x b × (r ≡ then_some b x)) → r ≡ agreed o
 unfolding agreed
-agreed_shapeless b e = rw e
-
-pub agreed_none : (b : Blocked) → b.ok ≡ true → false ≡ job_in_range b.job → None ≡ agreed b
-unfolding agreed
-agreed_none b e h = rw (e, ← h)
-
-pub agreed_some : (b : Blocked) → b.ok ≡ true → true ≡ job_in_range b.job → Some b.job ≡ agreed b
-unfolding agreed
-agreed_some b e h = rw (e, ← h)
+filtered None r h e = e
+filtered (Some job) r h (b, p, e) = e ∙ (ap (λ (t : Bool). then_some t job) (h job b p) ∙ by (job_in_range job))
+  where
+    by : (t : Bool) → then_some t job ≡ cond t (Some job) None
+    by true = refl
+    by false = refl
 
 pub agreed_found : (s : List ℕ) → block_shape s ≡ true → JobInRange (job_in s) → agreed (from_block s) ≡ Some (job_in s)
 unfolding agreed from_block
 agreed_found s e r = rw (e, (job_says (job_in s)).found r)
 
 -- 12: on the board of a job in range stand its pieces, and the reader's premises hold.
-pub on_board : (job : Job) {board : List ℕ} → JobInRange job → board ≡ pieces_board job → pieces_on board ≡ pieces_of job
+pub on_board : (job : Job) {board : Board} → JobInRange job → board ≡ pieces_board job → pieces_on board ≡ pieces_of job
 on_board job r e = ap pieces_on e ∙ pieces_read job r.count_most
 
-pub may_read : (job : Job) {board sums : List ℕ} {w h : ℕ} → JobInRange job → board ≡ pieces_board job → w ≡ job.width → h ≡ job.height → sums ≡ no_sums
-    → MayRead (pieces_on board) w h sums
-may_read job {board} {sums} {w} {h} r e f g z =
+pub may_read : (job : Job) {board : Board} {w h : ℕ} → JobInRange job → board ≡ pieces_board job → w ≡ job.width → h ≡ job.height
+    → MayRead (pieces_on board) w h no_leaves
+may_read job {board} {w} {h} r e f g =
     let wide : w ≤ side_max = omega (arith, r.width_most) in
     let high : h ≤ side_max = omega (arith, r.height_most) in
     let area : w * h ≤ side_max * side_max = mul-le-mul wide high in
-    subst (λ (l : List Piece). MayRead l w h sums) (sym (on_board job r e))
-    (subst (MayRead (pieces_of job) w h) (sym z)
+    subst (λ (l : List Piece). MayRead l w h no_leaves) (sym (on_board job r e))
     (record {
-      few = omega (arith, pieces-length job, r.count_most);
       range = r.pieces;
       wide = omega (arith, r.width_least);
       high = omega (arith, r.height_least);
-      room = record { long = refl; value = omega (arith, area); pieces = omega (arith, area); scrap = omega (arith, area) };
-    }))
+      room = record { value = omega (arith, area); pieces = omega (arith, area); scrap = omega (arith, area) };
+    })
 
 pub nodes_done : (file : List ℕ) (job : Job) {pieces : List Piece} {at start w h : ℕ} → pieces ≡ pieces_of job → at ≡ trailer_at file → start ≡ nodes_at file
     → w ≡ job.width → h ≡ job.height → part_at pieces (take at file) (frame start w h) ≡ nodes_read file job
 unfolding nodes_read
 nodes_done file job e f g i j = λ k. part_at (e k) (take (f k) file) (frame (g k) (i k) (j k))
 
+-- The same, as `leaves` comes to it.
+pub nodes_told : (file : List ℕ) (job : Job) {board : Board} {at near start w h : ℕ} → JobInRange job → board ≡ pieces_board job → at ≡ trailer_at file
+    → near ≡ nodes_distance file → start ≡ at - near → w ≡ job.width → h ≡ job.height
+    → part_at (pieces_on board) (take at file) (frame start w h) ≡ nodes_read file job
+nodes_told file job r set e f g = nodes_done file job (on_board job r set) e (g ∙ ap₂ ◌-◌ e f)
+
 -- 12 and 13, by what was read.
-pub leaves_read : (file : List ℕ) (q : Part) {n : ℕ} {t : Tally} → q ≡ Part.Read n t → n ≡ trailer_at file → leaves_of file q ≡ Some t
+pub leaves_none : (file : List ℕ) (q : Part) → None ≡ read_of q → None ≡ leaves_of file q
 unfolding leaves_of
-leaves_read file q e d = rw (e, (says_eq _ _).found d)
+leaves_none file q e = ap (leaves_of file) (broken_back q e)
 
-pub leaves_broken : (file : List ℕ) {q : Part} → q ≡ Part.Broken → leaves_of file q ≡ None
+pub leaves_left : (file : List ℕ) (q : Part) {r : Reading} → Some r ≡ read_of q → (r.at ≡ trailer_at file → ⊥) → None ≡ leaves_of file q
 unfolding leaves_of
-leaves_broken file e = rw e
+leaves_left file q e h = rw (← read_back q e, says_no (says_eq _ _) h)
 
-pub leaves_left : (file : List ℕ) {q : Part} {n : ℕ} {t : Tally} → q ≡ Part.Read n t → (n ≡ trailer_at file → ⊥) → leaves_of file q ≡ None
+pub leaves_some : (file : List ℕ) (q : Part) {r : Reading} → Some r ≡ read_of q → r.at ≡ trailer_at file → Some r.leaves ≡ leaves_of file q
 unfolding leaves_of
-leaves_left file e h = rw (e, says_no (says_eq _ _) h)
+leaves_some file q e h = rw (← read_back q e, (says_eq _ _).found h)
+
+pub leaves_read : (file : List ℕ) {q : Part} {t : Tally} → q ≡ Part.Read (trailer_at file) t → leaves_of file q ≡ Some t
+unfolding leaves_of
+leaves_read file e = rw (e, (says_eq (trailer_at file) (trailer_at file)).found refl)
 
 pub judged_none : (file : List ℕ) (q : Part) → leaves_of file q ≡ None → Checked.Refused nodes_broken ≡ judged file q
 unfolding valued
@@ -149,26 +156,6 @@ pub judged_yes : (file : List ℕ) (q : Part) {note : ℕ} {t : Tally} → leave
     → note ≡ note_length file → Checked.Accepted t.value note t.pieces t.scrap ≡ judged file q
 unfolding valued
 judged_yes file q {t = t} e h k = rw (e, (says_eq _ _).found h, k)
-
--- The row of sums holds what was read; where a rule is broken, the reader's 0 isn't where the trailer starts.
-grown_first : (t : Tally) → tally_in (grown no_sums t) ≡ t
-unfolding grown
-grown_first t =
-    let value : 0 + t.value ≡ t.value = omega arith in
-    let pieces : 0 + t.pieces ≡ t.pieces = omega arith in
-    let scrap : 0 + t.scrap ≡ t.scrap = omega arith in
-    λ i. tally (value i) (pieces i) (scrap i)
-
-pub leaves_none : (file : List ℕ) {sums : List ℕ} {next : ℕ} (q : Part) → ReadsTo no_sums sums next q → (next ≡ trailer_at file → ⊥)
-    → None ≡ leaves_of file q
-leaves_none file (Part.Read n t) (ReadsTo.read e h) d = sym (leaves_left file refl (λ g. d (e ∙ g)))
-leaves_none file Part.Broken (ReadsTo.broken e) d = sym (leaves_broken file refl)
-
-pub leaves_some : (file : List ℕ) {sums : List ℕ} {next : ℕ} (q : Part) → Framed file → ReadsTo no_sums sums next q → next ≡ trailer_at file
-    → Some (tally_in sums) ≡ leaves_of file q
-leaves_some file (Part.Read n t) f (ReadsTo.read e h) d =
-    ap (λ (u : Tally). Some u) (ap tally_in h ∙ grown_first t) ∙ sym (leaves_read file _ refl (sym e ∙ d))
-leaves_some file Part.Broken f (ReadsTo.broken e) d = absurd (omega (arith, f.least))
 
 -- The chain, by its stages.
 pub refuses_9 : (file : List ℕ) → (Framed file → ⊥) → Checked.Refused not_framed ≡ checked file
@@ -188,8 +175,3 @@ pub judges : (file : List ℕ) {job : Job} {r : Checked} → Framed file → tru
     → agreed (from_block (block_bytes file)) ≡ Some job → r ≡ judged file (nodes_read file job) → r ≡ checked file
 unfolding checked judged_job
 judges file f d g i = rw ((framed_says file).found f, ← d, g) i
-
--- What a `?` refuses with.
-pub refused_with : {A : Type 0} (o : Option A) {e f : Refusal} → Err e ≡ ok_or o f → e ≡ f
-refused_with None h = grind arith
-refused_with (Some x) h = grind arith

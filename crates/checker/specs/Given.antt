@@ -4,7 +4,8 @@ use Rattle.fields.specs.Sum.{sum_of}
 use Rattle.job.specs.Job.{pieces_of}
 use Rattle.job.specs.Range.{JobInRange}
 use Rattle.job.specs.Block.{block_length}
-use Rattle.nodes.specs.Reads.{Tally, ReadAs}
+use Rattle.nodes.specs.declared.Tally.{Tally}
+use Rattle.nodes.specs.Reads.{ReadAs}
 use Rattle.refusals.specs.Refusals.{not_framed, sum_differs, job_out_of_range, nodes_broken, value_differs}
 use Rattle.checker.specs.Fields.{trailer_at, block_distance, nodes_distance, stated_value, stated_sum, note_length, nodes_at, summed_bytes, before_trailer, job_at, count_at}
 use Rattle.checker.specs.Checked.{Checked, Framed, whole_sheet}

@@ -2,10 +2,9 @@
 use Rattle.std.specs.Prelude.{ℕ, Bool, cond, ◌&&◌, ◌≡◌, List, leb, eqb, length, Option, Some, None}
 use Rattle.fields.specs.Sum.{sum_of}
 use Rattle.job.specs.declared.Job.{Job}
-use Rattle.job.specs.declared.Blocked.{Blocked}
 use Rattle.job.specs.Job.{pieces_of}
 use Rattle.job.specs.Inner.{job_in_range, from_block}
-use Rattle.nodes.specs.Reads.{Tally}
+use Rattle.nodes.specs.declared.Tally.{Tally}
 use Rattle.nodes.specs.Inner.{Part, part_at}
 use Rattle.refusals.specs.Refusals.{not_framed, sum_differs, job_out_of_range, nodes_broken, value_differs}
 use Rattle.fields.specs.Format.{file_least, file_most, distance_least}
@@ -24,8 +23,9 @@ unfoldable pub sum_agrees : List ℕ → Bool
 sum_agrees file = eqb (sum_of (summed_bytes file)) (stated_sum file)
 
 -- Rule 7.11: the bytes from D1 to D2 are a job block, and its job is in range.
-unfoldable pub agreed : Blocked → Option Job
-agreed blocked = cond (blocked.ok && job_in_range blocked.job) (Some blocked.job) None
+unfoldable pub agreed : Option Job → Option Job
+agreed (Some job) = cond (job_in_range job) (Some job) None
+agreed None = None
 
 unfoldable pub nodes_read : List ℕ → Job → Part
 nodes_read file job = part_at (pieces_of job) (before_trailer file) (whole_sheet job (nodes_at file))

@@ -5,7 +5,6 @@
 ghost use Rattle.checker.specs.Checked.{checked_from};
 ghost use Rattle.checker.specs.Inner.{CheckPromise};
 
-use nodes::{PIECE_AREA, SCRAP_AREA, VALUE};
 use refusals::Refusal;
 use trailer::Trailer;
 
@@ -29,14 +28,14 @@ pub fn check(file: &[u8]) -> Result<Accepted, Refusal>
         return Err(Refusal::SumDiffers);
     }
     let job = trailer.job().ok_or(Refusal::JobOutOfRange)?;
-    let sums = trailer.leaves(job).ok_or(Refusal::NodesBroken)?;
-    if sums[VALUE] != trailer.value {
+    let leaves = trailer.leaves(&job).ok_or(Refusal::NodesBroken)?;
+    if leaves.value != trailer.value {
         return Err(Refusal::ValueDiffers);
     }
     Ok(Accepted {
-        value: sums[VALUE],
+        value: leaves.value,
         note: trailer.note_length() as u32,
-        piece_area: sums[PIECE_AREA],
-        scrap_area: sums[SCRAP_AREA],
+        piece_area: leaves.pieces,
+        scrap_area: leaves.scrap,
     })
 }

@@ -1,21 +1,20 @@
 // The trailer of a framed plan file, and the parts that it points back to: the note, the job block and the nodes (rules 8.2 and 8.7).
-ghost use Rattle.std.specs.Prelude.{◌≡◌, option_map, MatchOption};
+ghost use Rattle.std.specs.Prelude.{◌≡◌, MatchOption};
 ghost use Rattle.job.specs.Range.{JobInRange};
 ghost use Rattle.job.specs.Inner.{from_block};
-ghost use Rattle.nodes.specs.Inner.{tally_in};
 ghost use Rattle.checker.specs.Fields.{trailer_at, block_distance, nodes_distance, stated_value, note_length, block_bytes};
 ghost use Rattle.checker.specs.Checked.{Framed};
 ghost use Rattle.checker.specs.Inner.{sum_agrees, agreed, nodes_read, leaves_of};
 
-use board::{Board, PLACES, set_pieces};
+use board::Board;
 use fields::format::{
     BLOCK_FIELD, DISTANCE_LEAST, FILE_LEAST, FILE_MOST, NODES_FIELD, SUM_LENGTH, TRAILER_LENGTH,
     VALUE_FIELD,
 };
-use fields::{number4, sum_of};
+use fields::{Field, sum_of};
 use job::Job;
 use job::block::from_block;
-use nodes::{SUM_COUNT, Sums, read_part};
+use nodes::{Nodes, Tally};
 
 // A framed file, where its trailer starts, and what that states: D1, D2 and the value.
 #[derive(Clone, Copy)]
@@ -41,7 +40,7 @@ impl<'a> Trailer<'a> {
             return None;
         }
         let at = file.len() - TRAILER_LENGTH;
-        let d1 = number4(file, at + BLOCK_FIELD) as usize;
+        let d1 = u32::read(file, at + BLOCK_FIELD) as usize;
         if d1 < DISTANCE_LEAST || d1 > at {
             return None;
         }
@@ -49,8 +48,8 @@ impl<'a> Trailer<'a> {
             file,
             at,
             d1,
-            d2: number4(file, at + NODES_FIELD) as usize,
-            value: number4(file, at + VALUE_FIELD),
+            d2: u32::read(file, at + NODES_FIELD) as usize,
+            value: u32::read(file, at + VALUE_FIELD),
         })
     }
 
@@ -67,7 +66,7 @@ impl<'a> Trailer<'a> {
     {
         let start = self.note_length();
         let end = self.file.len() - SUM_LENGTH;
-        sum_of(&self.file[start..end]) == number4(self.file, end)
+        sum_of(&self.file[start..end]) == u32::read(self.file, end)
     }
 
     // The job of the bytes between the two places that the trailer points back to, if it is one in range (rule 7.11).
@@ -76,36 +75,24 @@ impl<'a> Trailer<'a> {
     {
         let start = self.note_length();
         let end = start + self.d1.saturating_sub(self.d2);
-        let blocked = from_block(&self.file[start..end]);
-        let job = blocked.job;
-        if !blocked.ok {
-            return None;
-        }
-        if !job.in_range() {
-            return None;
-        }
-        Some(job)
+        from_block(&self.file[start..end]).filter(|job| job.in_range())
     }
 
     // The leaves of the tree for the whole rectangle, added up, if its nodes obey the rules and end where the trailer starts (rule 7.12).
-    pub fn leaves(&self, job: Job) -> Option<Sums>
-        requires { JobInRange job }
-        ensures { option_map tally_in result ≡ leaves_of self.now.file.now (nodes_read self.now.file.now job) }
+    pub fn leaves(&self, job: &Job) -> Option<Tally>
+        requires { JobInRange job.now }
+        ensures { result ≡ leaves_of self.now.file.now (nodes_read self.now.file.now job.now) }
     {
-        let mut board: Board = [0; PLACES];
-        set_pieces(&mut board, job);
-        let mut sums: Sums = [0; SUM_COUNT];
-        let next = read_part(
-            &board,
-            &self.file[..self.at],
-            self.at.saturating_sub(self.d2),
-            usize::from(job.width),
-            usize::from(job.height),
-            &mut sums,
-        );
-        if next != self.at {
+        let board = Board::of_pieces(job);
+        let nodes = Nodes {
+            board: &board,
+            bytes: &self.file[..self.at],
+        };
+        let start = self.at.saturating_sub(self.d2);
+        let reading = nodes.read(start, usize::from(job.width), usize::from(job.height))?;
+        if reading.at != self.at {
             return None;
         }
-        Some(sums)
+        Some(reading.leaves)
     }
 }

@@ -22,6 +22,7 @@ use Rattle.job.specs.Job.{pieces_of}
 use Rattle.job.specs.Block.{block_length}
 use Rattle.nodes.specs.Encoding.{encode}
 use Rattle.nodes.proofs.Encoding.{encode_least}
+use Rattle.board.specs.declared.Board.{Board}
 use Rattle.board.specs.Inner.{rows_on, width_on, board_of}
 use Rattle.tracer.specs.Inner.{whole, measured}
 use Rattle.fields.specs.Format.{node_length, trailer_length, file_most}
@@ -36,7 +37,7 @@ use Rattle.plan.proofs.Writing.{sheet_pieces, file-length}
 use Rattle.plan.proofs.Enough.{plan_enough_lem}
 use Rattle.plan.specs.declared.Written.{Written as Values}
 use Rattle.plan.specs.Planning.{Written, Refused, planned_from}
-use Rattle.std.proofs.Common.{Result, Ok, Err, IsErrAnd}
+use Rattle.std.proofs.Common.{Option, Some, None, Result, Ok, Err, IsErrAnd}
 use Rattle.refusals.specs.declared.Refusal.{Refusal}
 use Rattle.refusals.specs.Refusals.{number}
 use Rattle.refusals.proofs.Numbers.{never_zero}
@@ -83,25 +84,24 @@ module _ (job : Job) (t : List ℕ) (x y : ℕ) where
   length_fits k w = omega (arith, w.place, file_short k.readable k.traces)
 
   -- The refusals of the tree and its file, by the length of the nodes that was measured.
-  pub file_number_lem : {n : ℕ} (room : ℕ) → n ≡ cond (traces_for job t x y) (length (encode (tree_for job t x y))) 0
+  file_number_lem : {n : Option ℕ} (room : ℕ) → n ≡ cond (traces_for job t x y) (Some (length (encode (tree_for job t x y)))) None
       → file_number job.count n room ≡ file_refused job t x y room
   unfolding file_number file_refused plan_refusals plan_tests number_given
   file_number_lem room e =
-      ap (λ (m : ℕ). file_number job.count m room) e
-      ∙ go (traces_for job t x y) (length (encode (tree_for job t x y))) (length (plan_file job t x y))
-      (encode_least (tree_for job t x y)) (file-length (sheet_of job x y) (tree_for job t x y))
+      ap (λ (m : Option ℕ). file_number job.count m room) e
+      ∙ go (traces_for job t x y) (length (encode (tree_for job t x y))) (length (plan_file job t x y)) (file-length (sheet_of job x y) (tree_for job t x y))
     where
-      go : (b : Bool) (nodes whole : ℕ) → node_length ≤ nodes → whole ≡ block_length job.count + nodes + trailer_length
-          → file_number job.count (cond b nodes 0) room ≡ cond b (cond (leb whole room) 0 short_buffer) alien_table
-      go true nodes whole h l = not_chosen (says_eq nodes 0) _ _ (λ z. omega (arith, h)) ∙ ap (λ (m : ℕ). cond (leb m room) 0 short_buffer) (sym l)
-      go false nodes whole h l = refl
+      go : (b : Bool) (nodes whole : ℕ) → whole ≡ block_length job.count + nodes + trailer_length
+          → file_number job.count (cond b (Some nodes) None) room ≡ cond b (cond (leb whole room) 0 short_buffer) alien_table
+      go true nodes whole l = ap (λ (m : ℕ). cond (leb m room) 0 short_buffer) (sym l)
+      go false nodes whole l = refl
 
   -- The refusals before the tree, and those of the tree and its file, as plan comes to them.
   pub box_decides : {r : ℕ} (room : ℕ) → r ≡ box_refused job t x y → (r ≡ 0 → ⊥) → r ≡ plan_refused job t x y room
   unfolding plan_refused box_refused plan_refusals plan_tests
   box_decides room e h = answers (begun_stops box_rows e h)
 
-  pub file_decides : {r n k : ℕ} {board : List ℕ} (room : ℕ) (read : Readable job t x y) → r ≡ box_refused job t x y → r ≡ 0 → board ≡ board_of job
+  pub file_decides : {r k : ℕ} {n : Option ℕ} {board : Board} (room : ℕ) (read : Readable job t x y) → r ≡ box_refused job t x y → r ≡ 0 → board ≡ board_of job
       → n ≡ measured (rows_on board) (cell_of (width_on board) t) (whole x y) → k ≡ file_number job.count n room → k ≡ plan_refused job t x y room
   unfolding plan_refused box_refused file_refused plan_refusals plan_tests every_number
   file_decides room read e z laid m f =

@@ -1,5 +1,5 @@
 -- Plan as it computes; nobody has to believe it: `plan_exactly` says that it is `Plans`.
-use Rattle.std.specs.Prelude.{ℕ, suc, ◌≤◌, zero, ◌+◌, ◌*◌, Bool, cond, not, ◌&&◌, true, List, [], ◌∷◌, ◌≡◌, leb, eqb, length, take, drop}
+use Rattle.std.specs.Prelude.{ℕ, suc, ◌≤◌, zero, ◌+◌, ◌*◌, Bool, cond, not, ◌&&◌, true, List, [], ◌∷◌, ◌≡◌, leb, length, take, drop, Option, Some, None}
 use Rattle.laws.specs.Inner.{number_given}
 use Rattle.cutting.specs.Tree.{Tree}
 use Rattle.cells.specs.Cells.{cell_of, empty}
@@ -62,9 +62,10 @@ box_refused job t x y = number_given (take box_rows (plan_refusals job t x y 0))
 unfoldable pub file_refused : Job → List ℕ → ℕ → ℕ → ℕ → ℕ
 file_refused job t x y room = number_given (drop box_rows (plan_refusals job t x y room)) (drop box_rows (plan_tests job t x y room))
 
--- The same by the length of the nodes, 0 where rule 6.6 strikes.
-unfoldable pub file_number : ℕ → ℕ → ℕ → ℕ
-file_number count nodes room = cond (eqb nodes 0) alien_table (cond (leb (block_length count + nodes + trailer_length) room) 0 short_buffer)
+-- The same by the length of the nodes, none where rule 6.6 strikes.
+unfoldable pub file_number : ℕ → Option ℕ → ℕ → ℕ
+file_number count (Some nodes) room = cond (leb (block_length count + nodes + trailer_length) room) 0 short_buffer
+file_number count None room = alien_table
 
 -- The answer with these numbers.
 abbrev pub planned_with : ℕ → ℕ → ℕ → Planned

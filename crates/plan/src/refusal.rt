@@ -1,12 +1,10 @@
-// What plan refuses, row by row: the table and the box, then the tree and its file.
+// What plan refuses, row by row: the table and the box, then the file's length.
 // Each goal is about what a list of refusals computes.
 #![tactic(auto, unfolding(crate::specs::Inner::box_refused, crate::specs::Refusals::plan_refusals, crate::specs::Inner::plan_tests, crate::specs::Inner::file_number, desk::specs::Inner::job_refused, desk::specs::Inner::job_refusals, desk::specs::Inner::job_tests, laws::specs::Inner::number_given,))]
 
-ghost use Rattle.std.specs.Prelude.{◌≡◌, ◌+◌, ◌≤◌};
-ghost use Rattle.job.specs.Block.{block_length};
+ghost use Rattle.std.specs.Prelude.{◌≡◌, ◌≤◌, Some};
 ghost use Rattle.refusals.specs.Refusals.{refused};
 ghost use Rattle.tracer.specs.Inner.{length_most};
-ghost use Rattle.fields.specs.Format.{trailer_length};
 ghost use Rattle.plan.specs.Inner.{box_refused, file_number};
 
 use desk::refusal::{inside, of_job};
@@ -31,23 +29,12 @@ pub fn of_box(job: Job, t: &[u32], x: u32, y: u32) -> Result<(), Refusal>
     Ok(())
 }
 
-// The length of a file with this many pieces and this many bytes of nodes.
-fn file_length(count: u16, nodes: usize) -> usize
+// Has a buffer room for a file with this many pieces and this many bytes of nodes?
+pub fn of_room(count: u16, nodes: usize, room: usize) -> Result<(), Refusal>
     requires { nodes ≤ length_most }
-    ensures { result ≡ block_length count + nodes + trailer_length }
+    ensures { refused result ≡ file_number count (Some nodes) room }
 {
-    block_length(usize::from(count)) + nodes + TRAILER_LENGTH
-}
-
-// Rule 6.6 strikes where the nodes have no length; else the file has room, or not.
-pub fn of_file(count: u16, nodes: usize, room: usize) -> Result<(), Refusal>
-    requires { nodes ≤ length_most }
-    ensures { refused result ≡ file_number count nodes room }
-{
-    if nodes == 0 {
-        return Err(Refusal::AlienTable);
-    }
-    if room < file_length(count, nodes) {
+    if room < block_length(usize::from(count)) + nodes + TRAILER_LENGTH {
         return Err(Refusal::ShortBuffer);
     }
     Ok(())

@@ -1,9 +1,9 @@
-use Rattle.std.proofs.Common.{arith, sym, ◌∙◌, ap, option_map}
+use Rattle.std.proofs.Common.{arith, sym, ◌∙◌, ap}
 use Rattle.std.proofs.lemmas.Option.{MatchOption-at_none, MatchOption-at_some}
 use Rattle.std.proofs.lemmas.Result.{err_from_is_err_and}
-use Rattle.nodes.specs.Inner.{tally_in}
+use Rattle.refusals.proofs.Numbers.{refused_with}
 use Rattle.checker.specs.Inner.{checked}
-use Rattle.checker.proofs.Stages.{agreed_tells, refused_with, refuses_9, refuses_10, refuses_11, judges, judged_none, judged_value, judged_yes}
+use Rattle.checker.proofs.Stages.{agreed_tells, refuses_9, refuses_10, refuses_11, judges, judged_none, judged_value, judged_yes}
 use Rattle.checker.proofs.check.Goals as goal
 
 -- `check` meets its contract.
@@ -29,26 +29,26 @@ returns-in_err-job c =
 pub leaves-requires : goal.leaves-requires
 leaves-requires c = (agreed_tells _ (sym c.job.ensures ∙ c.in_ok-job.ensures.ok_part)).range
 
-pub returns-in_err-sums : goal.returns-in_err-sums
-returns-in_err-sums c =
-    let p = err_from_is_err_and c.from_residual-in_err-sums.result c.from_residual-in_err-sums.ensures.1 in
-    let no = c.in_err-sums.ensures in
+pub returns-in_err-leaves : goal.returns-in_err-leaves
+returns-in_err-leaves c =
+    let p = err_from_is_err_and c.from_residual-in_err-leaves.result c.from_residual-in_err-leaves.ensures.1 in
+    let no = c.in_err-leaves.ensures in
     let same = MatchOption-at_some _ _ _ c.in_ok-trailer.ensures.ok_part c.of.ensures in
     rw (p.1, p.2, refused_with _ no.value)
     (judges _ c.in_ok-trailer.trailer.framed c.if-not-sum_agrees.ensures (sym c.job.ensures ∙ c.in_ok-job.ensures.ok_part)
-    (judged_none _ _ (sym c.leaves.ensures ∙ ap (option_map tally_in) no.ok_part)) ∙ ap checked same)
+    (judged_none _ _ (sym c.leaves.ensures ∙ no.ok_part)) ∙ ap checked same)
 
-pub returns-then-sums-trailer : goal.returns-then-sums-trailer
-returns-then-sums-trailer c =
+pub returns-then-leaves-trailer : goal.returns-then-leaves-trailer
+returns-then-leaves-trailer c =
     let trailer = c.in_ok-trailer.trailer in
     let same = MatchOption-at_some _ _ _ c.in_ok-trailer.ensures.ok_part c.of.ensures in
     judges _ trailer.framed c.if-not-sum_agrees.ensures (sym c.job.ensures ∙ c.in_ok-job.ensures.ok_part)
-    (judged_value _ _ (sym c.leaves.ensures ∙ ap (option_map tally_in) c.in_ok-sums.ensures.ok_part) (λ e. omega (arith, trailer.value_is))) ∙ ap checked same
+    (judged_value _ _ (sym c.leaves.ensures ∙ c.in_ok-leaves.ensures.ok_part) (λ e. omega (arith, trailer.value_is))) ∙ ap checked same
 
 pub returns : goal.returns
 returns c =
     let trailer = c.in_ok-trailer.trailer in
     let same = MatchOption-at_some _ _ _ c.in_ok-trailer.ensures.ok_part c.of.ensures in
     judges _ trailer.framed c.if-not-sum_agrees.ensures (sym c.job.ensures ∙ c.in_ok-job.ensures.ok_part)
-    (judged_yes _ _ (sym c.leaves.ensures ∙ ap (option_map tally_in) c.in_ok-sums.ensures.ok_part) (omega (arith, trailer.value_is)) c.note_length.ensures)
+    (judged_yes _ _ (sym c.leaves.ensures ∙ c.in_ok-leaves.ensures.ok_part) (omega (arith, trailer.value_is)) c.note_length.ensures)
     ∙ ap checked same

@@ -3,15 +3,14 @@ use Prim.Native.Nat.{ℕ, ◌≤◌}
 use mathlib.Core.Bool.{Bool, not, false}
 use mathlib.Core.List.{List}
 use mathlib.Core.Path.{◌≡◌, sym, ap, ◌∙◌, subst}
-use native.Mathlib.Omega.{arith}
 use Rattle.cutting.specs.Limits.{pieces_max}
 use Rattle.cutting.specs.Piece.{Inside}
 use Rattle.cells.specs.Cells.{cell_of}
 use Rattle.cells.specs.Box.{is_empty, count_in_box}
 use Rattle.cells.specs.Inner.{any_in_box}
 use Rattle.board.specs.declared.Board.{Board}
-use Rattle.board.specs.Inner.{entries, width_on, height_on, count_on, rows_on, board_of}
-use Rattle.board.proofs.Holds.{row_lays, board_width, board_height, board_count, board_listed, board_holds}
+use Rattle.board.specs.Inner.{width_on, height_on, rows_on, board_of}
+use Rattle.board.proofs.Holds.{row_lays, board_width, board_height, board_listed, board_holds}
 use Rattle.fill.specs.Filled.{Full, Bounded}
 use Rattle.fill.specs.Inner.{filled, Valued, BoxReady}
 use Rattle.fill.proofs.Worth.{GivesWorth, worth_of_worth}
@@ -36,7 +35,9 @@ pub box_ready : (job : Job) (t : List ℕ) (x y : ℕ) {board : Board}
     → Usable job t → Inside x y job.width job.height → Bounded (cell_of job.width t) x y → board ≡ board_of job
     → BoxReady (rows_on board) (width_on board) (height_on board) x y t
 box_ready job t x y u i bounded e =
-    subst (λ (b : Board). BoxReady (rows_on b) (width_on b) (height_on b) x y t) (sym e) (rw (board_width job few, board_height job few) ready)
+    subst (λ (b : Board). BoxReady (rows_on b) (width_on b) (height_on b) x y t) (sym e)
+    (subst (λ (m : ℕ). BoxReady (rows_on (board_of job)) m (height_on (board_of job)) x y t) (sym (board_width job few))
+    (subst (λ (m : ℕ). BoxReady (rows_on (board_of job)) job.width m x y t) (sym (board_height job few)) ready))
   where
     few : job.count ≤ pieces_max
     few = u.range.count_most

@@ -13,7 +13,7 @@ use refusals::Refusal;
 // The record of piece `number`.
 #[tactic(auto, unfolding(crate::specs::Changing::record_of_piece))]
 fn piece_of(job: &Job, number: u32) -> Piece
-    requires count_le_pieces_max { job.now.count ≤ pieces_max }
+    requires few { job.now.count ≤ pieces_max }
     requires number { IsNumber job.now number }
     ensures { result ≡ record_of_piece job.now number }
 {
@@ -24,7 +24,7 @@ fn piece_of(job: &Job, number: u32) -> Piece
 #[tactic(auto, unfolding(crate::specs::Inner::emptied_size))]
 fn empty_size(job: &Job, t: &mut [u32], size: Piece)
     requires usable { Usable job.now t.old }
-    requires le_width { (1 ≤ size.width) × (1 ≤ size.height) }
+    requires least { (1 ≤ size.width) × (1 ≤ size.height) }
     ensures { t.new ≡ emptied_size job.now size t.old }
 {
     cells::empty_where_fits(

@@ -2,15 +2,13 @@
 use Prim.Native.Nat.{ℕ, zero, suc, ◌+◌, ◌*◌, ◌≤◌}
 use mathlib.Core.Bool.{Bool, true, false, cond}
 use mathlib.Core.List.{List}
-use mathlib.Core.Path.{◌≡◌, refl, sym, ap, ap₂, ◌∙◌}
+use mathlib.Core.Path.{◌≡◌, refl, sym, ap, ap₂, ◌∙◌, subst}
 use native.Mathlib.Omega.{arith}
 use native.Mathlib.Nat.{mul-le-mul}
 use lib.ListN.{length}
 use lib.Dec.{leb}
 use Rattle.laws.specs.Inner.{number_given, every_number, Wrote}
-use Rattle.laws.proofs.Says.{says_eq}
 use Rattle.laws.proofs.Refusal.{answers, begun_stops, begun_passes}
-use Rattle.laws.proofs.Choice.{not_chosen}
 use Rattle.laws.specs.Put.{put}
 use Rattle.cutting.specs.Limits.{side_max}
 use Rattle.cutting.specs.Piece.{Inside}
@@ -21,18 +19,19 @@ use Rattle.job.specs.declared.Job.{Job}
 use Rattle.job.specs.Job.{pieces_of}
 use Rattle.job.specs.Block.{block_length}
 use Rattle.nodes.specs.Encoding.{encode}
-use Rattle.nodes.proofs.Encoding.{encode_least}
 use Rattle.board.specs.declared.Board.{Board}
 use Rattle.board.specs.Inner.{rows_on, width_on, board_of}
 use Rattle.tracer.specs.Inner.{whole, measured}
-use Rattle.fields.specs.Format.{node_length, trailer_length, file_most}
+use Rattle.fields.specs.Format.{trailer_length, file_most}
 use Rattle.refusals.specs.Refusals.{alien_table, short_buffer}
 use Rattle.desk.specs.Inner.{accepted}
 use Rattle.desk.proofs.Answers.{given, left-as-it-was}
 use Rattle.plan.specs.File.{sheet_of}
 use Rattle.plan.specs.Inner.{tree_for, traces_for, plan_file, box_rows, plan_tests, box_refused, file_refused, file_number, plan_refused, planned_with, Ready}
 use Rattle.plan.specs.Refusals.{Readable, plan_refusals}
-use Rattle.plan.proofs.Tracing.{on_table, measured_as, tree_by_rules, tree_dissects}
+use Rattle.cells.proofs.Places.{holds_lower}
+use Rattle.desk.proofs.Exactly.{usable_holds}
+use Rattle.plan.proofs.Tracing.{measured_as, tree_by_rules, tree_dissects}
 use Rattle.plan.proofs.Writing.{sheet_pieces, file-length}
 use Rattle.plan.proofs.Enough.{plan_enough_lem}
 use Rattle.plan.specs.declared.Written.{Written as Values}
@@ -61,7 +60,13 @@ written_answer {value = value} {o = o} {file = file} e z w f =
 module _ (job : Job) (t : List ℕ) (x y : ℕ) where
   -- The cell that is read, with the code's width.
   pub cell_there : {a : ℕ} → Readable job t x y → a ≡ job.width → Holds a y t × Inside x y a y
-  cell_there r f = let k = on_table job t x y r f in (k.holds, k.inside)
+  cell_there r f =
+      let i = r.inside in
+      let here : Holds job.width y t × Inside x y job.width y = (
+        holds_lower y (usable_holds job t r.usable) i.height_least i.height_most,
+        record { width_least = i.width_least; width_most = i.width_most; height_least = i.height_least; height_most = omega arith },
+      ) in
+      subst (λ (a : ℕ). Holds a y t × Inside x y a y) (sym f) here
 
   pub cell_read : {a v : ℕ} → v ≡ cell_of a t x y → a ≡ job.width → v ≡ cell_of job.width t x y
   cell_read e f = e ∙ ap (λ (m : ℕ). cell_of m t x y) f

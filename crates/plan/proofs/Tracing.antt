@@ -1,21 +1,24 @@
 -- The tree of a job's table: the board holds the job, so that it is the tree by the rules.
-use Prim.Native.Nat.{ℕ, ◌+◌, ◌≤◌, ◌<◌}
+use Prim.Native.Nat.{ℕ, ◌+◌, ◌≤◌}
 use mathlib.Core.Bool.{true, cond}
+use Rattle.std.proofs.Common.{Option, Some, None}
+use Rattle.cutting.specs.Limits.{side_max}
+use Rattle.cutting.specs.Piece.{Inside}
 use mathlib.Core.List.{List}
 use mathlib.Core.Path.{◌≡◌, sym, ap, ◌∙◌, subst}
-use mathlib.Core.Logic.{inl}
 use native.Mathlib.Omega.{arith}
 use lib.ListN.{length}
 use Rattle.laws.specs.Inner.{Says, Room, Wrote}
 use Rattle.cutting.specs.Tree.{Tree, Valid, earning}
 use Rattle.cells.specs.Cells.{cell_of}
-use Rattle.cells.proofs.Places.{holds_lower}
-use Rattle.board.specs.Inner.{rows_on, board_of, width_on, Hold}
-use Rattle.board.proofs.Holds.{board_holds, board_width, board_count}
+use Rattle.cells.specs.Inner.{Holds}
+use Rattle.board.specs.declared.Board.{Board}
+use Rattle.board.specs.Inner.{rows_on, board_of, width_on, height_on, Hold}
+use Rattle.board.proofs.Holds.{board_holds, board_width, board_height}
 use Rattle.nodes.specs.Encoding.{encode}
 use Rattle.job.specs.declared.Job.{Job}
 use Rattle.job.specs.Job.{pieces_of}
-use Rattle.tracer.specs.Inner.{waste, whole, traced, measured, length_most, Sized, OnTable, Traceable, Dissects}
+use Rattle.tracer.specs.Inner.{whole, traced, measured, length_most, Sized, Traceable, Dissects}
 use Rattle.tracer.proofs.Traced.{measured_most}
 use Rattle.laws.proofs.Wrote.{wrote_as}
 use Rattle.tracer.proofs.ByRules.{traced_by_rules, rules_trace, rules_only, traces_says}
@@ -44,10 +47,17 @@ module _ (job : Job) (t : List ℕ) (x y : ℕ) (r : Readable job t x y) where
     sized = subst (λ (b : Board). Sized (rows_on b)) (sym is) rows_sized
 
     pub holds : Holds (width_on board) (height_on board) t
-    holds = ?
+    holds =
+        let most = r.usable.range.count_most in
+        subst (λ (b : Board). Holds (width_on b) (height_on b) t) (sym is) (rw (board_width job most, board_height job most) (usable_holds job t r.usable))
 
     pub traceable : Traceable board (whole x y)
-    traceable = ?
+    traceable =
+        let most = r.usable.range.count_most in
+        record {
+          wanted = tt;
+          inside = subst (λ (b : Board). Inside x y (width_on b) (height_on b)) (sym is) (rw (board_width job most, board_height job most) r.inside);
+        }
 
   -- The tree that is traced is the tree by the rules, there is no other, and where rule 6.6 strikes there is none.
   pub tree_by_rules : traces_for job t x y ≡ true → TreeFor job t x y (tree_for job t x y)

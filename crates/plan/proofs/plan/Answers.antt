@@ -1,9 +1,10 @@
-use Rattle.std.proofs.Common.{refl}
-use Rattle.refusals.proofs.Numbers.{never_zero}
-use Rattle.plan.proofs.Tracing.{traceable, measured_short}
+use Rattle.std.proofs.Common.{refl, ◌∙◌, sym, ap}
+use Rattle.refusals.specs.Refusals.{number}
+use Rattle.refusals.proofs.Numbers.{never_zero, refused_with}
+use Rattle.plan.proofs.Tracing.{sized, holds, traceable, measured_short}
 use Rattle.plan.proofs.Exactly.{readable_of, plan_granted}
 use Rattle.plan.proofs.Answers.{plan_left, written_answer, box_decides, file_decides}
-use Rattle.plan.specs.Inner.{planned, planned_bytes}
+use Rattle.plan.specs.Inner.{planned, planned_bytes, file_number}
 use Rattle.plan.proofs.plan.Goals as goal
 
 -- `plan` answers and writes as it promises.
@@ -12,32 +13,47 @@ unfolding planned planned_bytes
 returns-in_err-of_box c =
     plan_left _ _ _ _ _ _ c.from_residual.ensures.1 (box_decides _ _ _ _ _ c.in_err-of_box.ensures (never_zero _))
 
-pub lay_out-requires-clause-in_range : goal.lay_out-requires-clause-in_range
-lay_out-requires-clause-in_range c = (readable_of _ _ _ _ c.in_ok-of_box.ensures refl).usable.range
+pub of-board-requires : goal.of-board-requires
+of-board-requires c = (readable_of _ _ _ _ c.in_ok-of_box.ensures refl).usable.range
 
-pub measure-nodes-requires : goal.measure-nodes-requires
-measure-nodes-requires c = traceable _ _ _ _ (readable_of _ _ _ _ c.in_ok-of_box.ensures refl) c.lay_out.ensures
+pub invariant_of-table : goal.invariant_of-table
+invariant_of-table c =
+    let read = readable_of _ _ _ _ c.in_ok-of_box.ensures refl in
+    record { sized = sized _ _ _ _ read c.of-board.ensures; holds = holds _ _ _ _ read c.of-board.ensures }
 
-pub of_file-requires : goal.of_file-requires
-of_file-requires c =
-    measured_short _ _ _ _ (readable_of _ _ _ _ c.in_ok-of_box.ensures refl) c.lay_out.ensures c.measure-nodes.ensures
+pub measure-requires : goal.measure-requires
+measure-requires c = traceable _ _ _ _ (readable_of _ _ _ _ c.in_ok-of_box.ensures refl) c.of-board.ensures
 
-pub returns-in_err-of_file : goal.returns-in_err-of_file
+pub returns-in_err-nodes : goal.returns-in_err-nodes
+unfolding planned planned_bytes file_number
+returns-in_err-nodes c =
+    let box = c.in_ok-of_box.ensures in
+    let none = c.in_err-nodes.ensures in
+    plan_left _ _ _ _ _ _ c.from_residual-in_err-nodes.ensures.1
+    (file_decides _ _ _ _ _ (readable_of _ _ _ _ box refl) box refl c.of-board.ensures (sym none.ok_part ∙ c.measure.ensures) (ap number (refused_with _ none.value)))
+
+pub of_room-requires : goal.of_room-requires
+of_room-requires c =
+    measured_short _ _ _ _ (readable_of _ _ _ _ c.in_ok-of_box.ensures refl) c.of-board.ensures c.measure.ensures c.in_ok-nodes.ensures.ok_part
+
+pub returns-in_err-of_room : goal.returns-in_err-of_room
 unfolding planned planned_bytes
-returns-in_err-of_file c =
+returns-in_err-of_room c =
     let box = c.in_ok-of_box.ensures in
-    plan_left _ _ _ _ _ _ c.from_residual-in_err-of_file.ensures.1
-    (file_decides _ _ _ _ _ (readable_of _ _ _ _ box refl) box refl c.lay_out.ensures c.measure-nodes.ensures c.in_err-of_file.ensures)
+    let nodes = sym c.in_ok-nodes.ensures.ok_part ∙ c.measure.ensures in
+    plan_left _ _ _ _ _ _ c.from_residual-in_err-of_room.ensures.1
+    (file_decides _ _ _ _ _ (readable_of _ _ _ _ box refl) box refl c.of-board.ensures nodes c.in_err-of_room.ensures)
 
-pub write_file-requires : goal.write_file-requires
-write_file-requires c =
+pub write_file-requires-clause-ready : goal.write_file-requires-clause-ready
+write_file-requires-clause-ready c =
     let box = c.in_ok-of_box.ensures in
-    let number = file_decides _ _ _ _ _ (readable_of _ _ _ _ box refl) box refl c.lay_out.ensures c.measure-nodes.ensures c.in_ok-of_file.ensures in
-    (plan_granted _ _ _ _ _ number refl, c.lay_out.ensures)
+    let nodes = sym c.in_ok-nodes.ensures.ok_part ∙ c.measure.ensures in
+    plan_granted _ _ _ _ _ (file_decides _ _ _ _ _ (readable_of _ _ _ _ box refl) box refl c.of-board.ensures nodes c.in_ok-of_room.ensures) refl
 
 pub returns : goal.returns
 unfolding planned planned_bytes
 returns c =
     let box = c.in_ok-of_box.ensures in
-    let number = file_decides _ _ _ _ _ (readable_of _ _ _ _ box refl) box refl c.lay_out.ensures c.measure-nodes.ensures c.in_ok-of_file.ensures in
+    let nodes = sym c.in_ok-nodes.ensures.ok_part ∙ c.measure.ensures in
+    let number = file_decides _ _ _ _ _ (readable_of _ _ _ _ box refl) box refl c.of-board.ensures nodes c.in_ok-of_room.ensures in
     written_answer number refl c.write_file.ensures.file c.write_file.ensures.value

@@ -1,7 +1,7 @@
 -- A file is accepted exactly when it is a note, a job block in range, the encoding of a valid tree, and a true trailer.
 use Prim.Native.Nat.{ℕ, ◌+◌, ◌-◌, ◌*◌, ◌≤◌, ◌<◌}
-use mathlib.Core.Bool.{true}
 use mathlib.Core.Path.{◌≡◌, refl, sym, ap, ap₂, subst, ◌∙◌}
+use Rattle.std.proofs.Common.{Some}
 use mathlib.Core.Logic.{◌↔◌}
 use mathlib.Core.List.{List, [], ◌++◌, append-nil}
 use native.Mathlib.Omega.{arith}
@@ -17,7 +17,6 @@ use Rattle.fields.proofs.Number.{bytes4-length}
 use Rattle.fields.specs.Sum.{sum_of}
 use Rattle.fields.proofs.Sum.{sum_below_lem}
 use Rattle.job.specs.declared.Job.{Job}
-use Rattle.job.specs.declared.Blocked.{Blocked}
 use Rattle.job.specs.Job.{pieces_of, job_of}
 use Rattle.job.specs.Range.{JobInRange}
 use Rattle.job.specs.Block.{block_of}
@@ -26,18 +25,18 @@ use Rattle.job.proofs.Pieces.{pieces-length, pieces-job_of}
 use Rattle.job.proofs.Range.{job_says, job_of_in_range}
 use Rattle.job.proofs.Blocks.{shape_says, block-length, from_block_of_block, block_written, range_fits}
 use Rattle.nodes.specs.Encoding.{encode}
-use Rattle.nodes.specs.Reads.{Tally, tally_of}
+use Rattle.nodes.specs.declared.Tally.{Tally}
+use Rattle.nodes.specs.Reads.{tally_of}
 use Rattle.nodes.specs.Inner.{Part}
 use Rattle.nodes.proofs.Encoding.{encode_least, valid_written}
 use Rattle.nodes.proofs.Exactly.{complete}
 use Rattle.fields.specs.Format.{file_most}
 use Rattle.checker.specs.Fields.{trailer_at, block_distance, nodes_distance, stated_value, stated_sum, note_length, nodes_at, summed_bytes, block_bytes, before_trailer, job_at}
-use Rattle.checker.specs.Checked.{Answer, answer, Framed}
+use Rattle.checker.specs.Checked.{Checked, Answer, answer, Framed}
 use Rattle.checker.specs.Inner.{agreed, nodes_read, checked}
 use Rattle.checker.specs.Given.{SumTrue, JobFits, NodesObey, Given}
 use Rattle.checker.specs.PlanFile.{body, pointers, summed, plan_bytes, PlanFile}
-use Rattle.checker.specs.declared.Checked.{Checked}
-use Rattle.checker.proofs.Stages.{framed_says, sum_says, nodes_done, judged_yes, judges}
+use Rattle.checker.proofs.Stages.{sum_says, nodes_done, leaves_read, judged_yes, judges}
 use Rattle.checker.proofs.Parts.{layout, pointers_of, laid-length, laid_trailer, laid_far, laid_value, laid-sum, laid_note, laid_summed, laid_block, laid_found, taken, dropped, laid_out_lem}
 use Rattle.checker.proofs.Given.{bytes_take, bytes_drop, fits_shape, block_bytes-length, given}
 
@@ -132,15 +131,12 @@ module _ (note : List ℕ) (job : Job) (tree : Tree) (range : JobInRange job) (v
       job_of_in_range job.width job.height pieces (record { least = range.width_least; most = range.width_most })
       (record { least = range.height_least; most = range.height_most }) pieces_few range.pieces
 
-  block_file : ◌≡◌ {A = Blocked} (record { ok = true; job = again }) (from_block (block_bytes file))
-  unfolding body
-  block_file =
+  agreed_file : agreed (from_block (block_bytes file)) ≡ Some again
+  unfolding agreed body
+  agreed_file =
       let laid = laid_block note (block_of job) (encode tree) far near value sum small_far small_near small_value small_sum refl refl in
-      sym (ap from_block laid ∙ from_block_of_block job.width job.height pieces (range_fits job range))
-
-  agreed_file : agreed (record { ok = true; job = again }) ≡ true
-  unfolding agreed
-  agreed_file = (job_says again).found again_range
+      ap (λ (s : List ℕ). agreed (from_block s)) laid
+      ∙ (ap agreed (from_block_of_block job.width job.height pieces (range_fits job range)) ∙ rw ((job_says again).found again_range))
 
   nodes_file : Part.Read (trailer_at file) (tally_of pieces tree job.width job.height) ≡ nodes_read file again
   unfolding body job_of
@@ -154,8 +150,8 @@ module _ (note : List ℕ) (job : Job) (tree : Tree) (range : JobInRange job) (v
       ≡ checked (plan_bytes note job tree)
   unfolding tally_of
   plan_accepted =
-      judges file ((framed_says file).found framed_file) ((sum_says file).found sum_file) block_file agreed_file nodes_file
-      (judged_yes file refl refl (sym value_at_lem) (sym note_at))
+      judges file framed_file (sym ((sum_says file).found sum_file)) agreed_file
+      (judged_yes file _ (leaves_read file (sym nodes_file)) (sym value_at_lem) (sym note_at))
       ∙ ap checked (sym is_laid)
 
 -- What lies behind m in the first n of a list.

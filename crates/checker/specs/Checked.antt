@@ -1,10 +1,22 @@
--- The answer's number and values; when a file is framed; the rectangle that its nodes dissect.
-use Rattle.std.specs.Prelude.{ℕ, ◌≤◌, List, length}
+-- The answer, with its number and values; when a file is framed; the rectangle that its nodes dissect.
+use Rattle.std.specs.Prelude.{ℕ, ◌≤◌, List, length, Result, Ok, Err}
+use Rattle.refusals.specs.declared.Refusal.{Refusal}
+use Rattle.refusals.specs.Refusals.{number}
 use Rattle.job.specs.declared.Job.{Job}
 use Rattle.nodes.specs.Reads.{Frame, frame}
 use Rattle.fields.specs.Format.{file_least, file_most, distance_least}
 use Rattle.checker.specs.Fields.{trailer_at, block_distance}
-use Rattle.checker.specs.declared.Checked.{Checked}
+use Rattle.checker.specs.declared.Accepted.{Accepted as Values}
+
+-- What check says of a file: accepted, with its value, the length of its note, and the areas of its pieces and of its scrap; or refused with a number.
+pub data Checked : Type 0 where
+  Accepted : ℕ → ℕ → ℕ → ℕ → Checked
+  Refused : ℕ → Checked
+
+-- The code's answer as that.
+abbrev pub checked_from : Result Values Refusal → Checked
+checked_from (Ok a) = Checked.Accepted a.value a.note a.piece_area a.scrap_area
+checked_from (Err refusal) = Checked.Refused (number refusal)
 
 -- The number and the values of each case of the answer (rule 4.15).
 pub record Answer : Type 0 where

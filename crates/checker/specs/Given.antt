@@ -4,11 +4,11 @@ use Rattle.fields.specs.Sum.{sum_of}
 use Rattle.job.specs.Job.{pieces_of}
 use Rattle.job.specs.Range.{JobInRange}
 use Rattle.job.specs.Block.{block_length}
-use Rattle.nodes.specs.Reads.{Tally, ReadAs}
-use Rattle.checker.specs.Refusals.{not_framed, sum_differs, job_out_of_range, nodes_broken, value_differs}
+use Rattle.nodes.specs.declared.Tally.{Tally}
+use Rattle.nodes.specs.Reads.{ReadAs}
+use Rattle.refusals.specs.Refusals.{not_framed, sum_differs, job_out_of_range, nodes_broken, value_differs}
 use Rattle.checker.specs.Fields.{trailer_at, block_distance, nodes_distance, stated_value, stated_sum, note_length, nodes_at, summed_bytes, before_trailer, job_at, count_at}
-use Rattle.checker.specs.Checked.{Framed, whole_sheet}
-use Rattle.checker.specs.declared.Checked.{Checked}
+use Rattle.checker.specs.Checked.{Checked, Framed, whole_sheet}
 
 -- The sum in the trailer is that of the bytes that it covers (rule 8.9).
 abbrev pub SumTrue : List ℕ → Type 0

@@ -23,7 +23,8 @@ use Rattle.fill.proofs.Filled.{final_only, final_own, filled_inside, filled_outs
 use Rattle.fill.proofs.Growing.{filled-length}
 use Rattle.job.specs.declared.Job.{Job}
 use Rattle.job.specs.Inner.{job_in_range, within}
-use Rattle.desk.specs.Refusals.{bad_job, not_inside, cells_of, ask_refusals}
+use Rattle.refusals.specs.Refusals.{bad_job, not_inside}
+use Rattle.desk.specs.Refusals.{cells_of, ask_refusals}
 use Rattle.desk.specs.Inner.{accepted, ask_tests, ask_refused, changed, asked_with, job_rows, filled_for, asked, asked_cells}
 use Rattle.desk.proofs.Exactly.{inside_says}
 use Rattle.tracer.specs.Inner.{whole}

@@ -18,9 +18,8 @@ use Rattle.job.specs.Change.{with_added, with_corrected, with_removed}
 use Rattle.job.proofs.Pieces.{pieces-length, pieces_at, job_of_tidy}
 use Rattle.job.proofs.Range.{new_in_range}
 use Rattle.job.proofs.Changed.{pieces_added, pieces_corrected, pieces_removed, added-length, corrected-length, added_in_range, corrected_in_range, removed_in_range}
-use Rattle.desk.specs.declared.Changed.{Changed}
 use Rattle.desk.specs.Refusals.{Usable, IsNumber}
-use Rattle.desk.specs.Changing.{record_of_piece, SizeFits, Changes, Opens}
+use Rattle.desk.specs.Changing.{Changed, record_of_piece, SizeFits, Changes, Opens}
 use Rattle.desk.proofs.Exactly.{open_number, add_number, correct_number, remove_number}
 use Rattle.desk.proofs.Granted.{open_granted, add_granted, correct_granted, remove_granted}
 use Rattle.khonvertseg.specs.declared.KhonChanged.{KhonChanged}

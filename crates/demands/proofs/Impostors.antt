@@ -19,7 +19,7 @@ use Rattle.job.specs.Inner.{piece_in_range, pieces_in_range, job_in_range, block
 use Rattle.nodes.specs.Inner.{is_inside, is_piece, letter_node, node_at, with_first, then_read, both_parts, part_by, part_at}
 use Rattle.checker.specs.PlanFile.{body, summed, plan_bytes}
 use Rattle.checker.specs.Fields.{summed_bytes, block_bytes}
-use Rattle.checker.specs.Inner.{framed, sum_agrees, agreed, nodes_read, judged, judged_job, checked}
+use Rattle.checker.specs.Inner.{framed, sum_agrees, agreed, nodes_read, valued, leaves_of, judged_job, checked}
 use Rattle.checker.proofs.Given.{only}
 use Rattle.cutting.specs.Piece.{Inside}
 use Rattle.cutting.proofs.Dissection.{best_unique}
@@ -107,7 +107,7 @@ plan_nothing_breaks {job} h x y i n o enough z l =
 
 -- One that refuses every file (rule 11.3): check accepts K4's.
 pub check_refusing_breaks : {r : KhonChecked} → KhonChecks k4 r → (r.refusal ≡ 0 → ⊥) → ⊥
-unfolding checked framed sum_agrees agreed nodes_read judged judged_job summed_bytes block_bytes number2_of number4_of running_sum pieces_of job_of piece_in_range pieces_in_range job_in_range piece_from job_in block_shape from_block is_piece is_inside letter_node node_at with_first then_read both_parts part_by part_at deep to_depth by_index all_below
+unfolding checked framed sum_agrees agreed nodes_read valued leaves_of judged_job summed_bytes block_bytes number2_of number4_of running_sum pieces_of job_of piece_in_range pieces_in_range job_in_range piece_from job_in block_shape from_block is_piece is_inside letter_node node_at with_first then_read both_parts part_by part_at deep to_depth by_index all_below
 check_refusing_breaks l refused = refused (ap (λ (c : KhonChecked). c.refusal) (l.laid ∙ ap flat_checked (only k4 (are_bytes k4 refl) l.keeps)))
 
 -- One that writes no cell (rule 11.3): an answered question fills every cell that it covers.

@@ -20,12 +20,10 @@ use Rattle.checker.specs.Checked.{Answer, answer}
 use Rattle.checker.specs.PlanFile.{PlanFile}
 use Rattle.checker.proofs.Accepts.{accepts_exactly}
 use Rattle.checker.proofs.Given.{only}
-use Rattle.plan.specs.declared.Planned.{Planned}
-use Rattle.plan.specs.declared.Planned.TheVariants.{Written}
 use Rattle.plan.specs.Inner.{PlanPromise}
 use Rattle.plan.specs.File.{TreeFor, file_of}
 use Rattle.plan.specs.Refusals.{PlanRefusal}
-use Rattle.plan.specs.Planning.{Plans}
+use Rattle.plan.specs.Planning.{Written, Planned, Plans}
 use Rattle.plan.specs.Best.{PlansBest}
 use Rattle.plan.specs.Enough.{plan_enough}
 use Rattle.plan.proofs.Promise.{plan_checked}

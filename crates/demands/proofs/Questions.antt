@@ -23,9 +23,8 @@ use Rattle.fill.proofs.Filled.{most_fits}
 use Rattle.job.specs.declared.Job.{Job}
 use Rattle.job.specs.Job.{lay_of}
 use Rattle.job.specs.Block.{block_of}
-use Rattle.desk.specs.declared.Asked.{Asked}
 use Rattle.desk.specs.Refusals.{ask_refusals, AskRefusal}
-use Rattle.desk.specs.Asking.{Asks}
+use Rattle.desk.specs.Asking.{Asked, Asks}
 use Rattle.desk.proofs.Exactly.{ask_number}
 use Rattle.desk.proofs.Granted.{ask_granted}
 use Rattle.khonvertseg.specs.declared.KhonAsked.{KhonAsked}

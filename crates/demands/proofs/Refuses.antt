@@ -20,17 +20,14 @@ use Rattle.job.specs.Change.{with_added, with_corrected, with_removed}
 use Rattle.job.proofs.Range.{job_says, zeros_refused}
 use Rattle.job.proofs.Pieces.{job_of_zeros}
 use Rattle.job.specs.Block.{bytes_of_pieces, bytes_of_head, block, block_of, job_in, BlockShape}
-use Rattle.desk.specs.declared.Changed.{Changed}
-use Rattle.desk.specs.declared.Asked.{Asked}
-use Rattle.desk.specs.Refusals.{bad_job, open_refusals, add_refusals, correct_refusals, remove_refusals, ask_refusals, OpenRefusal, AddRefusal, CorrectRefusal, RemoveRefusal, AskRefusal}
-use Rattle.desk.specs.Changing.{Changes}
-use Rattle.desk.specs.Asking.{Asks}
-use Rattle.plan.specs.declared.Planned.{Planned}
+use Rattle.refusals.specs.Refusals.{bad_job}
+use Rattle.desk.specs.Refusals.{open_refusals, add_refusals, correct_refusals, remove_refusals, ask_refusals, OpenRefusal, AddRefusal, CorrectRefusal, RemoveRefusal, AskRefusal}
+use Rattle.desk.specs.Changing.{Changed, Changes}
+use Rattle.desk.specs.Asking.{Asked, Asks}
 use Rattle.plan.specs.Refusals.{plan_refusals, PlanRefusal}
-use Rattle.plan.specs.Planning.{Plans}
+use Rattle.plan.specs.Planning.{Planned, Plans}
 use Rattle.plan.proofs.Exactly.{plan_accepted}
-use Rattle.checker.specs.declared.Checked.{Checked}
-use Rattle.checker.specs.Checked.{answer}
+use Rattle.checker.specs.Checked.{Checked, answer}
 use Rattle.checker.specs.Given.{Given}
 use Rattle.checker.proofs.Given.{only}
 use Rattle.khonvertseg.specs.declared.KhonChanged.{KhonChanged}

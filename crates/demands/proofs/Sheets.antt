@@ -11,7 +11,7 @@ use Rattle.laws.specs.Below.{sum_below}
 use Rattle.laws.specs.Inner.{number_given, all_below, any_below, best_below, first_below, first_number, deep, to_depth}
 use Rattle.laws.specs.ByIndex.{by_index}
 use Rattle.cutting.specs.Change.{added, corrected, removed}
-use Rattle.board.specs.Inner.{marks_of, mark_row, is_point, reaches, reaches_up_to, some_makes, makes, rows_on, entries_of, with_sides, pieces_board, with_points, board_of}
+use Rattle.board.specs.Inner.{marks_of, mark_row, is_point, reaches, reaches_up_to, some_makes, makes, rows_on, pieces_board, with_points, board_of}
 use Rattle.fill.specs.Inner.{worth_of, fitting_value, line_value, line_at, final, filled}
 use Rattle.cells.specs.Box.{count_in_box, count_in_row, is_empty}
 use Rattle.cells.specs.Inner.{any_in_box, any_in_row, exceeds, too_much, redrawn, fits, emptied, emptied_where}
@@ -21,8 +21,7 @@ use Rattle.job.specs.declared.Job.{Job}
 use Rattle.job.specs.Job.{record_of, job_of, zero_job, pieces_of}
 use Rattle.job.specs.Inner.{job_in_range, pieces_in_range, piece_in_range, block_shape, from_block}
 use Rattle.job.specs.Change.{with_added, with_corrected, with_removed}
-use Rattle.desk.specs.declared.Changed.{Changed}
-use Rattle.desk.specs.Changing.{record_of_piece}
+use Rattle.desk.specs.Changing.{Changed, record_of_piece}
 use Rattle.desk.specs.Refusals.{add_refusals, remove_refusals, correct_refusals, ask_refusals}
 use Rattle.desk.specs.Inner.{opened, opened_cells, emptied_size, added_job, added_cells, corrected_job, corrected_cells, removed_job, removed_cells, OpenPromise, accepted, open_refused, ask_tests, ask_refused, add_tests, add_refused, remove_tests, remove_refused, correct_tests, correct_refused, asked, asked_cells, filled_for, job_rows}
 use Rattle.desk.proofs.Answers.{given}
@@ -40,8 +39,8 @@ use Rattle.nodes.specs.Inner.{is_inside, is_piece, letter_node, node_at, with_fi
 use Rattle.tracer.specs.Inner.{two_cells, suits, first_piece, adds_to, least_line, trimmed_to, cut_out, strikes, ruled, step_in, tree_by, traces_by, traced, traces}
 use Rattle.checker.specs.PlanFile.{plan_bytes, summed, body, pointers}
 use Rattle.checker.specs.Fields.{summed_bytes, block_bytes}
-use Rattle.checker.specs.Inner.{checked, framed, sum_agrees, agreed, nodes_read, judged, judged_job}
-use Rattle.plan.specs.declared.Planned.{Planned}
+use Rattle.checker.specs.Inner.{checked, framed, sum_agrees, agreed, nodes_read, valued, leaves_of, judged_job}
+use Rattle.plan.specs.Planning.{Planned}
 use Rattle.plan.specs.Refusals.{plan_refusals}
 use Rattle.plan.specs.Inner.{plan_file, plan_tests, plan_refused, planned_with as plans_answer, planned, planned_bytes, PlanPromise}
 use Rattle.khonvertseg.specs.declared.KhonChanged.{KhonChanged}
@@ -243,7 +242,7 @@ computed s c =
         cells = f.1 ∙ sym (given (emptied s.width s.height 1 1 t) t refl z)
 
 computes : Each Computes sheets
-unfolding run added_job added_cells corrected_job corrected_cells asked_cells asked add_refused correct_refused remove_refused ask_refused add_refusals correct_refusals remove_refusals ask_refusals add_tests correct_tests remove_tests ask_tests number_given accepted job_in_range pieces_in_range piece_in_range all_below with_added with_corrected job_of zero_job pieces_of added corrected by_index emptied_size emptied emptied_where redrawn fits cell_of place record_of_piece filled_for filled final deep to_depth worth_of fitting_value line_value line_at job_rows rows_on board_of with_points pieces_board with_sides entries_of put marks_of mark_row is_point reaches reaches_up_to some_makes makes any_below best_below sum_below count_in_box count_in_row is_empty any_in_box any_in_row exceeds too_much plan_refused plan_refusals plan_tests plan_bytes summed body pointers block bytes_of_head bytes_of_pieces bytes_of_piece bytes2 bytes4 encode node running_sum earning piece_at first_below first_number two_cells suits first_piece adds_to least_line trimmed_to cut_out strikes ruled step_in tree_by traced traces_by traces checked framed sum_agrees agreed nodes_read judged judged_job summed_bytes block_bytes number2_of number4_of piece_from job_in block_shape from_block is_piece is_inside letter_node node_at with_first then_read both_parts part_by part_at best_value best_by exact_value exactly pieces_after removed
+unfolding run added_job added_cells corrected_job corrected_cells asked_cells asked add_refused correct_refused remove_refused ask_refused add_refusals correct_refusals remove_refusals ask_refusals add_tests correct_tests remove_tests ask_tests number_given accepted job_in_range pieces_in_range piece_in_range all_below with_added with_corrected job_of zero_job pieces_of added corrected by_index emptied_size emptied emptied_where redrawn fits cell_of place record_of_piece filled_for filled final deep to_depth worth_of fitting_value line_value line_at job_rows rows_on board_of with_points pieces_board put marks_of mark_row is_point reaches reaches_up_to some_makes makes any_below best_below sum_below count_in_box count_in_row is_empty any_in_box any_in_row exceeds too_much plan_refused plan_refusals plan_tests plan_bytes summed body pointers block bytes_of_head bytes_of_pieces bytes_of_piece bytes2 bytes4 encode node running_sum earning piece_at first_below first_number two_cells suits first_piece adds_to least_line trimmed_to cut_out strikes ruled step_in tree_by traced traces_by traces checked framed sum_agrees agreed nodes_read valued leaves_of judged_job summed_bytes block_bytes number2_of number4_of piece_from job_in block_shape from_block is_piece is_inside letter_node node_at with_first then_read both_parts part_by part_at best_value best_by exact_value exactly pieces_after removed
 computes =
     let k1 = each K1 refl refl (omega arith) (omega arith) in
     let k2 = each K2 refl refl (omega arith) (omega arith) in

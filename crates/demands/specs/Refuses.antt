@@ -2,9 +2,8 @@
 use Rattle.std.specs.Prelude.{ℕ, List, ◌≡◌}
 use Rattle.job.specs.declared.Job.{Job}
 use Rattle.job.specs.Block.{job_in, BlockShape}
-use Rattle.desk.specs.Refusals.{bad_job}
-use Rattle.checker.specs.declared.Checked.{Checked}
-use Rattle.checker.specs.Checked.{answer}
+use Rattle.refusals.specs.Refusals.{bad_job}
+use Rattle.checker.specs.Checked.{Checked, answer}
 use Rattle.checker.specs.Given.{Given}
 
 -- `list k` says when the list gives number k. The call has this number: the list gives it, and gives no other; where it is not 0,

@@ -1,20 +1,22 @@
 -- How a call joins its refusal and its work, over the definitions.
-use Prim.Native.Nat.{ℕ, zero, suc, ◌≤◌}
+use Prim.Native.Nat.{ℕ, zero, suc}
 use mathlib.Core.Bool.{◌||◌}
 use mathlib.Core.List.{List}
-use mathlib.Core.Path.{◌≡◌, refl, sym, ap, ap₂, ◌∙◌, subst}
-use native.Mathlib.Omega.{arith}
-use lib.ListN.{length}
+use mathlib.Core.Path.{◌≡◌, refl, sym, ap, ap₂, ◌∙◌}
 use Rattle.cells.specs.Cells.{cell_of}
-use Rattle.cells.specs.Inner.{Holds, fits, emptied, emptied_where}
-use Rattle.cells.proofs.Emptied.{emptied-length, emptied_twice}
+use Rattle.cells.specs.Inner.{fits, emptied_where}
+use Rattle.cells.proofs.Emptied.{emptied_twice}
 use Rattle.job.specs.declared.Piece.{Piece as Record}
 use Rattle.job.specs.declared.Job.{Job}
-use Rattle.desk.specs.declared.Changed.{Changed}
-use Rattle.desk.specs.declared.Asked.TheVariants.{Answered, Refused}
+use Rattle.std.specs.Prelude.{Result, Ok, Err, IsErrAnd}
+use Rattle.refusals.specs.declared.Refusal.{Refusal}
+use Rattle.refusals.specs.Refusals.{number}
+use Rattle.refusals.proofs.Numbers.{never_zero}
+use Rattle.desk.specs.declared.question.Answer.{Answer}
+use Rattle.desk.specs.Changing.{Changed}
+use Rattle.desk.specs.Asking.{Answered, Refused}
 use Rattle.desk.specs.Refusals.{Usable}
-use Rattle.desk.specs.Inner.{accepted, changed, emptied_size, asked_with}
-use Rattle.desk.proofs.Exactly.{usable_holds}
+use Rattle.desk.specs.Inner.{accepted, changed, changed_from, emptied_size, asked_with, asked_from}
 
 pub given {ℓ} : {A : Type ℓ} {r refusal : ℕ} (after left : A) → r ≡ refusal → r ≡ 0 → after ≡ accepted refusal after left
 unfolding accepted
@@ -31,16 +33,17 @@ pub change_refused : {r refusal : ℕ} {left job : Job} {t : List ℕ} (after : 
 change_refused {left = left} {t = t} after cells e h f =
     (λ i. record { refusal = e i; job = (f ∙ left-as-it-was after left e h) i }, left-as-it-was cells t e h)
 
+-- So where `?` hands a refusal on.
+pub change_left : (r : Result Job Refusal) (refusal : Refusal) (after left : Job) (cells t : List ℕ) {n : ℕ} → IsErrAnd r (λ e. e ≡ refusal)
+    → number refusal ≡ n → (changed_from left r ≡ changed n after left) × (t ≡ accepted n cells t)
+change_left (Ok job) refusal after left cells t e f = absurd e
+change_left (Err other) refusal after left cells t e f = change_refused after cells (ap number e ∙ f) (never_zero other) refl
+
 -- An accepted change: the job after it, and the cells that it empties.
 pub change_given : {r refusal : ℕ} {after job : Job} {t' cells : List ℕ} (left : Job) (t : List ℕ) → r ≡ refusal → r ≡ 0 → job ≡ after → t' ≡ cells
     → (◌≡◌ {A = Changed} (record { refusal = 0; job = job }) (changed refusal after left)) × (t' ≡ accepted refusal cells t)
 change_given {after = after} {cells = cells} left t e z f g =
     (λ i. record { refusal = (sym z ∙ e) i; job = (f ∙ given after left e z) i }, g ∙ given cells t e z)
-
-pub usable_still : (job : Job) (size : Record) (t : List ℕ) {t' : List ℕ} → t' ≡ emptied_size job size t → Usable job t → Usable job t'
-unfolding emptied_size
-usable_still job size t e u =
-    record { range = u.range; room = omega (arith, u.room, ap length e, emptied-length job.width job.height size.width size.height t) }
 
 -- The old size and then the new one: the cells where either fits.
 pub emptied_both : (job : Job) (old new : Record) (t : List ℕ) {first next : List ℕ} → Usable job t → first ≡ emptied_size job old t
@@ -55,6 +58,12 @@ pub asked_refused : {r refusal : ℕ} {t : List ℕ} (value worked : ℕ) (cells
 asked_refused {r = zero} value worked cells e h = absurd (h refl)
 asked_refused {r = suc k} {t = t} value worked cells e h = (ap (λ (n : ℕ). asked_with n value worked) e, left-as-it-was cells t e h)
 
+-- So where `?` hands a refusal on.
+pub asked_left : (r : Result Answer Refusal) (refusal : Refusal) (value worked : ℕ) (cells t : List ℕ) {n : ℕ} → IsErrAnd r (λ e. e ≡ refusal)
+    → number refusal ≡ n → (asked_from r ≡ asked_with n value worked) × (t ≡ accepted n cells t)
+asked_left (Ok answer) refusal value worked cells t e f = absurd e
+asked_left (Err other) refusal value worked cells t e f = asked_refused value worked cells (ap number e ∙ f) (never_zero other)
+
 pub asked_given : {r refusal value worked v n : ℕ} {t' cells : List ℕ} (t : List ℕ) → r ≡ refusal → r ≡ 0 → v ≡ value → n ≡ worked → t' ≡ cells
     → (Answered v n ≡ asked_with refusal value worked) × (t' ≡ accepted refusal cells t)
 asked_given {value = value} {worked = worked} {cells = cells} t e z f g h =
@@ -63,14 +72,3 @@ asked_given {value = value} {worked = worked} {cells = cells} t e z f g h =
 -- The cell that is read, with the code's width and row.
 pub read_at : (x y : ℕ) {v a width : ℕ} {t' t : List ℕ} → v ≡ cell_of a t' x y → a ≡ width → t' ≡ t → v ≡ cell_of width t x y
 read_at x y e f g = e ∙ (λ i. cell_of (f i) (g i) x y)
-
--- The job's sides and a size, as the code has them.
-pub size_holds : (job : Job) (size : Record) (t : List ℕ) {a b p q : ℕ} → Usable job t → (1 ≤ size.width) × (1 ≤ size.height) → a ≡ job.width
-    → b ≡ job.height → p ≡ size.width → q ≡ size.height → Holds a b t × ((1 ≤ p) × (1 ≤ q))
-size_holds job size t {b = b} u s e f g h =
-    (subst (λ (m : ℕ). Holds m b t) (sym e) (subst (λ (m : ℕ). Holds job.width m t) (sym f) (usable_holds job t u)), omega arith)
-
-pub size_emptied : (job : Job) (size : Record) (t : List ℕ) {a b p q : ℕ} {t' : List ℕ} → a ≡ job.width → b ≡ job.height → p ≡ size.width → q ≡ size.height
-    → t' ≡ emptied a b p q t → t' ≡ emptied_size job size t
-unfolding emptied_size
-size_emptied job size t e f g h k = k ∙ (λ i. emptied (e i) (f i) (g i) (h i) t)

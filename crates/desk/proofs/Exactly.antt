@@ -2,7 +2,7 @@
 use Prim.Native.Nat.{ℕ, ◌*◌, ◌≤◌}
 use mathlib.Core.Bool.{Bool, false, not, ◌&&◌, true}
 use mathlib.Core.List.{List}
-use mathlib.Core.Path.{◌≡◌, refl, sym, ap, ◌∙◌, subst}
+use mathlib.Core.Path.{◌≡◌, refl, sym, ◌∙◌, subst}
 use native.Mathlib.Omega.{arith}
 use mathlib.Core.Logic.{◌↔◌, ⊎_elim}
 use lib.Dec.{leb}
@@ -17,14 +17,15 @@ use Rattle.cutting.specs.Limits.{side_max, pieces_max}
 use Rattle.cutting.specs.Piece.{Inside}
 use Rattle.cells.specs.Cells.{cell_of}
 use Rattle.cells.specs.Inner.{exceeds, any_in_box, Holds}
-use Rattle.cells.proofs.Places.{area_fits, holds_lower}
+use Rattle.cells.proofs.Places.{holds_lower}
 use Rattle.cells.proofs.Box.{any_in_box_says, exceeds_says}
 use Rattle.fill.specs.Filled.{Bounded}
 use Rattle.job.specs.declared.Piece.{Piece as Record}
 use Rattle.job.specs.declared.Job.{Job}
-use Rattle.job.specs.Inner.{within, job_in_range}
+use Rattle.job.specs.Inner.{within}
 use Rattle.job.proofs.Range.{within_says, piece_says, job_says}
-use Rattle.desk.specs.Refusals.{bad_job, short_table, cells_of, Usable, IsNumber, open_refusals, add_refusals, correct_refusals, remove_refusals, ask_refusals, OpenRefusal, AddRefusal, RemoveRefusal, CorrectRefusal, AskRefusal}
+use Rattle.refusals.specs.Refusals.{bad_job, short_table}
+use Rattle.desk.specs.Refusals.{cells_of, Usable, IsNumber, open_refusals, add_refusals, correct_refusals, remove_refusals, ask_refusals, OpenRefusal, AddRefusal, RemoveRefusal, CorrectRefusal, AskRefusal}
 use Rattle.desk.specs.Inner.{job_refusals, job_tests, job_refused, open_tests, open_refused, add_tests, add_refused, remove_tests, remove_refused, correct_tests, correct_refused, ask_tests, ask_refused}
 
 pub inside_says : (x y a b : ℕ) → Says (within x a && within y b) (Inside x y a b)
@@ -43,17 +44,6 @@ bounded_says a t x y =
       (λ b k. let m = (exceeds_says a t k.0 k.1).means k.3 in omega (arith, b k.0 k.1 k.2 m.0, m.1)),
     )
     (says_not (any_in_box_says x y (exceeds a t)))
-
--- A job in range has a sheet of at most 240 by 240 cells.
-pub sides_fit : (job : Job) {r : Bool} {m n : ℕ} → r ≡ job_in_range job → r ≡ true → m ≡ job.width → n ≡ job.height → m * n ≤ side_max * side_max
-sides_fit job e h f g =
-    let range = (job_says job).means (sym e ∙ h) in
-    area_fits (omega (arith, range.width_most)) (omega (arith, range.height_most))
-
-pub open_fits : (a b : ℕ) {r : Bool} → r ≡ (within a side_max && within b side_max) → r ≡ true → a * b ≤ side_max * side_max
-open_fits a b e h =
-    let i = (inside_says a b side_max side_max).means (sym e ∙ h) in
-    area_fits i.width_most i.height_most
 
 -- The tests of each call say the facts of its list, so that the number it computes is exactly the one that the list gives.
 
@@ -129,7 +119,3 @@ pub box_holds : (job : Job) (t : List ℕ) (x y : ℕ) {first a : ℕ} {r : Bool
     → r ≡ (within x job.width && within y job.height) → r ≡ true → a ≡ job.width → Holds a y t × (x ≤ a)
 box_holds job t x y e z f h g =
     usable_box job t x y (usable_of job t e z) ((inside_says x y job.width job.height).means (sym f ∙ h)) g
-
-pub box_test : (job : Job) (t : List ℕ) (x y : ℕ) {a : ℕ} {r : Bool} → r ≡ any_in_box x y (exceeds a t) → a ≡ job.width
-    → r ≡ any_in_box x y (exceeds job.width t)
-box_test job t x y e g = e ∙ ap (λ (m : ℕ). any_in_box x y (exceeds m t)) g

@@ -18,7 +18,8 @@ use Rattle.job.specs.declared.Job.{Job}
 use Rattle.job.specs.Job.{pieces_of}
 use Rattle.job.proofs.Range.{RecordIn, in_range_each}
 use Rattle.job.proofs.Pieces.{pieces-length, pieces_at}
-use Rattle.desk.specs.Refusals.{bad_job, short_table, not_inside, bad_piece, full_job, alien_table, Usable, IsNumber, open_refusals, add_refusals, remove_refusals, correct_refusals, ask_refusals}
+use Rattle.refusals.specs.Refusals.{bad_job, short_table, not_inside, bad_piece, full_job, alien_table}
+use Rattle.desk.specs.Refusals.{Usable, IsNumber, open_refusals, add_refusals, remove_refusals, correct_refusals, ask_refusals}
 use Rattle.desk.specs.Inner.{open_refused, add_refused, remove_refused, correct_refused, ask_refused, job_rows, filled_for}
 use Rattle.desk.specs.Changing.{record_of_piece}
 use Rattle.desk.proofs.Exactly.{open_number, add_number, remove_number, correct_number, ask_number, usable_holds}

@@ -3,14 +3,14 @@ use Prim.Native.Nat.{ℕ, ◌≤◌}
 use mathlib.Core.Bool.{Bool, not, false}
 use mathlib.Core.List.{List}
 use mathlib.Core.Path.{◌≡◌, sym, ap, ◌∙◌, subst}
-use native.Mathlib.Omega.{arith}
 use Rattle.cutting.specs.Limits.{pieces_max}
 use Rattle.cutting.specs.Piece.{Inside}
 use Rattle.cells.specs.Cells.{cell_of}
 use Rattle.cells.specs.Box.{is_empty, count_in_box}
 use Rattle.cells.specs.Inner.{any_in_box}
-use Rattle.board.specs.Inner.{entries, width_on, height_on, count_on, rows_on, board_of}
-use Rattle.board.proofs.Holds.{row_lays, board_width, board_height, board_count, board_listed, board_holds}
+use Rattle.board.specs.declared.Board.{Board}
+use Rattle.board.specs.Inner.{width_on, height_on, rows_on, board_of}
+use Rattle.board.proofs.Holds.{row_lays, board_width, board_height, board_listed, board_holds}
 use Rattle.fill.specs.Filled.{Full, Bounded}
 use Rattle.fill.specs.Inner.{filled, Valued, BoxReady}
 use Rattle.fill.proofs.Worth.{GivesWorth, worth_of_worth}
@@ -31,12 +31,13 @@ job_hold job r = worth_of_worth (rows_on (board_of job)) (pieces_of job) job.wid
 valued : (job : Job) → JobInRange job → Valued (rows_on (board_of job))
 valued job r k h = (r.pieces _ _ _ (row_lays (board_listed job r.count_most) k h)).value_most
 
-pub box_ready : (job : Job) (t : List ℕ) (x y : ℕ) {board : List ℕ}
+pub box_ready : (job : Job) (t : List ℕ) (x y : ℕ) {board : Board}
     → Usable job t → Inside x y job.width job.height → Bounded (cell_of job.width t) x y → board ≡ board_of job
-    → BoxReady (rows_on board) (width_on board) (height_on board) x y t × (count_on board ≤ entries)
+    → BoxReady (rows_on board) (width_on board) (height_on board) x y t
 box_ready job t x y u i bounded e =
-    subst (λ (b : List ℕ). BoxReady (rows_on b) (width_on b) (height_on b) x y t × (count_on b ≤ entries)) (sym e)
-    (rw (board_width job few, board_height job few) ready, omega (arith, board_count job few))
+    subst (λ (b : Board). BoxReady (rows_on b) (width_on b) (height_on b) x y t) (sym e)
+    (subst (λ (m : ℕ). BoxReady (rows_on (board_of job)) m (height_on (board_of job)) x y t) (sym (board_width job few))
+    (subst (λ (m : ℕ). BoxReady (rows_on (board_of job)) job.width m x y t) (sym (board_height job few)) ready))
   where
     few : job.count ≤ pieces_max
     few = u.range.count_most
@@ -45,7 +46,7 @@ box_ready job t x y u i bounded e =
     ready = record { holds = usable_holds job t u; inside = i; bounded = bounded; valued = valued job u.range }
 
 -- What the box holds once it is filled.
-pub box_filled : (job : Job) (t : List ℕ) (x y : ℕ) {r : ℕ} {board t' : List ℕ} → JobInRange job → board ≡ board_of job
+pub box_filled : (job : Job) (t : List ℕ) (x y : ℕ) {r : ℕ} {board : Board} {t' : List ℕ} → JobInRange job → board ≡ board_of job
     → r ≡ count_in_box x y (is_empty (width_on board) t) → t' ≡ filled (rows_on board) (width_on board) (height_on board) x y t
     → (r ≡ count_in_box x y (is_empty job.width t)) × (t' ≡ filled_for job t x y)
 unfolding filled_for job_rows

@@ -4,8 +4,8 @@ use mathlib.Core.List.{List}
 use mathlib.Core.Path.{◌≡◌, sym, ◌∙◌}
 use Rattle.job.specs.declared.Piece.{Piece as Record}
 use Rattle.job.specs.declared.Job.{Job}
-use Rattle.desk.specs.declared.Changed.{Changed}
-use Rattle.desk.specs.declared.Asked.{Asked}
+use Rattle.desk.specs.Changing.{Changed}
+use Rattle.desk.specs.Asking.{Asked}
 use Rattle.desk.specs.Inner.{OpenPromise, AddPromise, CorrectPromise, RemovePromise, AskPromise}
 
 pub open_unique : (a b : ℕ) (t : List ℕ) {r s : Changed} {t' s' : List ℕ} → OpenPromise a b t r t' → OpenPromise a b t s s' → (r ≡ s) × (t' ≡ s')

@@ -19,12 +19,11 @@ use Rattle.job.specs.declared.Piece.{Piece as Record}
 use Rattle.job.specs.declared.Job.{Job}
 use Rattle.job.specs.Job.{job_of, zero_job, lay_of}
 use Rattle.job.specs.Change.{with_added, with_corrected, with_removed}
-use Rattle.desk.specs.declared.Changed.{Changed}
-use Rattle.desk.specs.declared.Asked.{Asked}
-use Rattle.desk.specs.declared.Asked.TheVariants.{Answered}
+use Rattle.desk.specs.Asking.{Asked}
+use Rattle.desk.specs.Asking.{Answered}
 use Rattle.desk.specs.Refusals.{AskRefusal}
 use Rattle.desk.specs.Inner.{accepted, ask_refused, changed, opened, opened_cells, emptied_size, added_job, added_cells, corrected_job, corrected_cells, removed_job, removed_cells, asked_with, job_rows, filled_for, asked, asked_cells, OpenPromise, AddPromise, CorrectPromise, RemovePromise, AskPromise}
-use Rattle.desk.specs.Changing.{Changes, Opens, SizeFits, Adds, Corrects, Removes, record_of_piece}
+use Rattle.desk.specs.Changing.{Changed, Changes, Opens, SizeFits, Adds, Corrects, Removes, record_of_piece}
 use Rattle.desk.specs.Asking.{Asks}
 use Rattle.desk.proofs.Answers.{change_given, change_refused, asked_given, asked_refused}
 use Rattle.desk.proofs.Exactly.{open_number, add_number, correct_number, remove_number, ask_number}

@@ -6,8 +6,12 @@ use Rattle.job.specs.declared.Piece.{Piece as Record}
 use Rattle.job.specs.declared.Job.{Job}
 use Rattle.job.specs.Job.{no_record, job_of, zero_job}
 use Rattle.job.specs.Change.{with_added, with_corrected, with_removed}
-use Rattle.desk.specs.declared.Changed.{Changed}
 use Rattle.desk.specs.Refusals.{OpenRefusal, AddRefusal, CorrectRefusal, RemoveRefusal}
+
+-- The answer of open, add, correct and remove: the refusal's number, 0 where there is none, and the job.
+pub record Changed : Type 0 where
+  pub refusal : ℕ
+  pub job : Job
 
 -- What a change of the sheet a by b and of the table t answers, and what the table holds then. `refusal` says which number the
 -- call has, `hit` which cells it empties, `after` is the job after it, and `left` the job where it is refused.

@@ -1,5 +1,5 @@
 -- The calls as they compute; nobody has to believe it: `open_exactly` to `ask_exactly` (proofs/Words) say that they are the words.
-use Rattle.std.specs.Prelude.{ℕ, zero, suc, ◌*◌, ◌≤◌, Bool, not, ◌&&◌, ◌||◌, List, [], ◌∷◌, ◌≡◌, leb, eqb, length}
+use Rattle.std.specs.Prelude.{ℕ, zero, suc, ◌*◌, ◌≤◌, Bool, not, ◌&&◌, ◌||◌, List, [], ◌∷◌, ◌≡◌, leb, eqb, length, Result, Ok, Err}
 use Rattle.laws.specs.Refusal.{Row}
 use Rattle.laws.specs.Inner.{number_given}
 use Rattle.cutting.specs.Limits.{side_max, pieces_max}
@@ -14,11 +14,12 @@ use Rattle.job.specs.Change.{with_added, with_corrected, with_removed}
 use Rattle.cells.specs.Box.{is_empty, count_in_box}
 use Rattle.board.specs.Inner.{Rows, rows_on, board_of}
 use Rattle.fill.specs.Inner.{filled}
-use Rattle.desk.specs.declared.Changed.{Changed}
-use Rattle.desk.specs.declared.Asked.{Asked}
-use Rattle.desk.specs.declared.Asked.TheVariants.{Answered, Refused}
-use Rattle.desk.specs.Changing.{record_of_piece}
-use Rattle.desk.specs.Refusals.{bad_job, short_table, cells_of, open_refusals, add_refusals, correct_refusals, remove_refusals, ask_refusals}
+use Rattle.refusals.specs.declared.Refusal.{Refusal}
+use Rattle.refusals.specs.Refusals.{bad_job, short_table, number}
+use Rattle.desk.specs.declared.question.Answer.{Answer}
+use Rattle.desk.specs.Changing.{Changed, record_of_piece}
+use Rattle.desk.specs.Asking.{Asked, Answered, Refused}
+use Rattle.desk.specs.Refusals.{cells_of, open_refusals, add_refusals, correct_refusals, remove_refusals, ask_refusals}
 
 -- What an accepted call (number 0) gives, or else what a refused one leaves.
 unfoldable pub accepted {ℓ} : {A : Type ℓ} → ℕ → A → A → A
@@ -78,6 +79,11 @@ ask_refused job t x y = number_given (ask_refusals job t x y) (ask_tests job t x
 abbrev pub changed : ℕ → Job → Job → Changed
 changed refusal after left = record { refusal = refusal; job = accepted refusal after left }
 
+-- The code's answer as such: with the job that is left where it is refused.
+abbrev pub changed_from : Job → Result Job Refusal → Changed
+changed_from left (Ok job) = record { refusal = 0; job = job }
+changed_from left (Err refusal) = record { refusal = number refusal; job = left }
+
 unfoldable pub opened : ℕ → ℕ → List ℕ → Changed
 opened a b t = changed (open_refused a b t) (job_of a b []) zero_job
 
@@ -116,6 +122,11 @@ removed_cells job t k = accepted (remove_refused job t k) (emptied_size job (rec
 abbrev pub asked_with : ℕ → ℕ → ℕ → Asked
 asked_with zero value worked = Answered value worked
 asked_with (suc k) value worked = Refused (suc k)
+
+-- The code's answer as such.
+abbrev pub asked_from : Result Answer Refusal → Asked
+asked_from (Ok answer) = Answered answer.value answer.worked
+asked_from (Err refusal) = Refused (number refusal)
 
 -- What the filling reads of a job: its pieces as rows, and the marks of P and Q.
 unfoldable pub job_rows : Job → Rows

@@ -8,38 +8,7 @@ use Rattle.fill.specs.Filled.{Bounded}
 use Rattle.job.specs.declared.Piece.{Piece as Record}
 use Rattle.job.specs.declared.Job.{Job}
 use Rattle.job.specs.Range.{JobInRange}
-
--- The numbers by name, those of plan too. Rule 7.1: a job out of its range.
-abbrev pub bad_job : ℕ
-bad_job = 1
-
--- Rule 7.2: too few cells.
-abbrev pub short_table : ℕ
-short_table = 2
-
--- Rule 7.3: no such piece, or a rectangle that isn't inside the sheet.
-abbrev pub not_inside : ℕ
-not_inside = 3
-
--- Rule 7.4: a new piece out of its range.
-abbrev pub bad_piece : ℕ
-bad_piece = 4
-
--- Rule 7.5: 64 pieces already.
-abbrev pub full_job : ℕ
-full_job = 5
-
--- Rule 7.6: an empty cell.
-abbrev pub not_asked : ℕ
-not_asked = 6
-
--- Rule 7.7: numbers that these calls never leave.
-abbrev pub alien_table : ℕ
-alien_table = 7
-
--- Rule 7.8: too short a buffer.
-abbrev pub short_buffer : ℕ
-short_buffer = 8
+use Rattle.refusals.specs.Refusals.{bad_job, short_table, not_inside, bad_piece, full_job, alien_table}
 
 -- The number of cells of a job's sheet.
 abbrev pub cells_of : Job → ℕ

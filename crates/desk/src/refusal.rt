@@ -1,127 +1,102 @@
-// The numbers that the calls on a table refuse with, and the list of refusals of each call, row by row.
+// What each call on a table refuses, row by row.
+// Each goal is about what a list of refusals computes.
+#![tactic(auto, unfolding(
+// a job
+crate::specs::Inner::job_refused, crate::specs::Inner::job_refusals, crate::specs::Inner::job_tests,
+// open
+crate::specs::Inner::open_refused, crate::specs::Refusals::open_refusals, crate::specs::Inner::open_tests,
+// add
+crate::specs::Inner::add_refused, crate::specs::Refusals::add_refusals, crate::specs::Inner::add_tests,
+// correct
+crate::specs::Inner::correct_refused, crate::specs::Refusals::correct_refusals, crate::specs::Inner::correct_tests,
+// remove
+crate::specs::Inner::remove_refused, crate::specs::Refusals::remove_refusals, crate::specs::Inner::remove_tests,
+// ask
+crate::specs::Inner::ask_refused, crate::specs::Refusals::ask_refusals, crate::specs::Inner::ask_tests,
+// what a list gives
+laws::specs::Inner::number_given))]
+
 ghost use Rattle.std.specs.Prelude.{◌≡◌, ◌&&◌};
 ghost use Rattle.job.specs.Inner.{within};
+ghost use Rattle.refusals.specs.Refusals.{refused};
 ghost use Rattle.desk.specs.Inner.{job_refused, open_refused, add_refused, correct_refused, remove_refused, ask_refused};
 
-use fields::cast::{long, wide};
 use job::{Job, Piece};
-
-// Rule 7.1: the job is out of its ranges, or the bytes are no job block.
-pub const JOB: u32 = 1;
-
-// Rule 7.2: the table has fewer cells than the sheet.
-pub const TABLE: u32 = 2;
-
-// Rule 7.3: no piece has the number, or the rectangle doesn't lie inside the sheet.
-pub const PLACE: u32 = 3;
-
-// Rule 7.4: the new piece is out of its ranges.
-pub const PIECE: u32 = 4;
-
-// Rule 7.5: the job has as many pieces as it can hold.
-pub const FULL: u32 = 5;
-
-// Rule 7.7: a filled cell of the box holds more than its area may earn, or there is no tree.
-pub const EXCESS: u32 = 7;
-
-// Is n in the range 1 to most?
-fn one_to(n: u32, most: u32) -> bool
-    ensures { result ≡ within n most }
-{
-    if n < 1 {
-        return false;
-    }
-    n <= most
-}
+use refusals::Refusal;
 
 // Does x by y lie inside a by b?
 pub fn inside(x: u32, y: u32, a: u16, b: u16) -> bool
     ensures { result ≡ (within x a && within y b) }
 {
-    if !one_to(x, long(a)) {
-        return false;
-    }
-    one_to(y, long(b))
+    (1..=u32::from(a)).contains(&x) && (1..=u32::from(b)).contains(&y)
 }
 
-pub fn job_refused(job: Job, t: &[u32]) -> u32
-    ensures { result ≡ job_refused job t.now }
+pub fn of_job(job: &Job, t: &[u32]) -> Result<(), Refusal>
+    ensures { refused result ≡ job_refused job.now t.now }
 {
     if !job.in_range() {
-        return JOB;
+        return Err(Refusal::BadJob);
     }
-    if t.len() < wide(job.width) * wide(job.height) {
-        return TABLE;
+    if t.len() < usize::from(job.width) * usize::from(job.height) {
+        return Err(Refusal::ShortTable);
     }
-    0
+    Ok(())
 }
 
-pub(crate) fn open_refused(a: u32, b: u32, t: &[u32]) -> u32
-    ensures { result ≡ open_refused a b t.now }
+pub(crate) fn of_open(a: u32, b: u32, t: &[u32]) -> Result<(), Refusal>
+    ensures { refused result ≡ open_refused a b t.now }
 {
     if !inside(a, b, Job::SIDE_MAX, Job::SIDE_MAX) {
-        return JOB;
+        return Err(Refusal::BadJob);
     }
     if t.len() < a as usize * b as usize {
-        return TABLE;
+        return Err(Refusal::ShortTable);
     }
-    0
+    Ok(())
 }
 
-pub(crate) fn add_refused(job: Job, t: &[u32], piece: Piece) -> u32
-    ensures { result ≡ add_refused job t.now piece }
+pub(crate) fn of_add(job: &Job, t: &[u32], piece: Piece) -> Result<(), Refusal>
+    ensures { refused result ≡ add_refused job.now t.now piece }
 {
-    let first = job_refused(job, t);
-    if first != 0 {
-        return first;
-    }
+    of_job(job, t)?;
     if !piece.in_range() {
-        return PIECE;
+        return Err(Refusal::BadPiece);
     }
     if job.count == Job::PIECES_MAX {
-        return FULL;
+        return Err(Refusal::FullJob);
     }
-    0
+    Ok(())
 }
 
-pub(crate) fn remove_refused(job: Job, t: &[u32], number: u32) -> u32
-    ensures { result ≡ remove_refused job t.now number }
+pub(crate) fn of_remove(job: &Job, t: &[u32], number: u32) -> Result<(), Refusal>
+    ensures { refused result ≡ remove_refused job.now t.now number }
 {
-    let first = job_refused(job, t);
-    if first != 0 {
-        return first;
+    of_job(job, t)?;
+    if !(1..=u32::from(job.count)).contains(&number) {
+        return Err(Refusal::NotInside);
     }
-    if !one_to(number, long(job.count)) {
-        return PLACE;
-    }
-    0
+    Ok(())
 }
 
-pub(crate) fn correct_refused(job: Job, t: &[u32], number: u32, piece: Piece) -> u32
-    ensures { result ≡ correct_refused job t.now number piece }
+pub(crate) fn of_correct(job: &Job, t: &[u32], number: u32, piece: Piece) -> Result<(), Refusal>
+    ensures { refused result ≡ correct_refused job.now t.now number piece }
 {
-    let first = remove_refused(job, t, number);
-    if first != 0 {
-        return first;
-    }
+    of_remove(job, t, number)?;
     if !piece.in_range() {
-        return PIECE;
+        return Err(Refusal::BadPiece);
     }
-    0
+    Ok(())
 }
 
-pub(crate) fn ask_refused(job: Job, t: &[u32], x: u32, y: u32) -> u32
-    ensures { result ≡ ask_refused job t.now x y }
+pub(crate) fn of_ask(job: &Job, t: &[u32], x: u32, y: u32) -> Result<(), Refusal>
+    ensures { refused result ≡ ask_refused job.now t.now x y }
 {
-    let first = job_refused(job, t);
-    if first != 0 {
-        return first;
-    }
+    of_job(job, t)?;
     if !inside(x, y, job.width, job.height) {
-        return PLACE;
+        return Err(Refusal::NotInside);
     }
-    if cells::has_exceeding(t, wide(job.width), x as usize, y as usize) {
-        return EXCESS;
+    if cells::has_exceeding(t, usize::from(job.width), x as usize, y as usize) {
+        return Err(Refusal::AlienTable);
     }
-    0
+    Ok(())
 }

@@ -4,12 +4,10 @@ use Rattle.std.specs.Prelude.{ℕ, List, ◌≡◌}
 use Rattle.job.specs.declared.Piece.{Piece as Record}
 use Rattle.job.specs.declared.Job.{Job}
 use Rattle.job.specs.Block.{job_in, BlockShape}
-use Rattle.desk.specs.declared.Asked.{Asked}
-use Rattle.desk.specs.Refusals.{bad_job}
+use Rattle.refusals.specs.Refusals.{bad_job}
 use Rattle.desk.specs.Changing.{Opens, Adds, Corrects, Removes}
-use Rattle.desk.specs.Asking.{Asks}
-use Rattle.plan.specs.declared.Planned.{Planned}
-use Rattle.plan.specs.Planning.{Plans}
+use Rattle.desk.specs.Asking.{Asked, Asks}
+use Rattle.plan.specs.Planning.{Planned, Plans}
 use Rattle.checker.specs.Given.{Given}
 use Rattle.khonvertseg.specs.Flat.{flat_changed, flat_asked, flat_planned, flat_checked}
 use Rattle.khonvertseg.specs.declared.KhonChanged.{KhonChanged}

@@ -1,11 +1,8 @@
 -- Each answer laid out as the header's struct, field by field, from the one definition that gives number and values for its cases.
-use Rattle.desk.specs.declared.Changed.{Changed}
-use Rattle.desk.specs.declared.Asked.{Asked}
-use Rattle.desk.specs.Asking.{asked_numbers}
-use Rattle.plan.specs.declared.Planned.{Planned}
-use Rattle.plan.specs.Planning.{planned_numbers}
-use Rattle.checker.specs.declared.Checked.{Checked}
-use Rattle.checker.specs.Checked.{Answer, answer}
+use Rattle.desk.specs.Changing.{Changed}
+use Rattle.desk.specs.Asking.{Asked, asked_numbers}
+use Rattle.plan.specs.Planning.{Planned, planned_numbers}
+use Rattle.checker.specs.Checked.{Checked, Answer, answer}
 use Rattle.khonvertseg.specs.declared.KhonChanged.{KhonChanged}
 use Rattle.khonvertseg.specs.declared.KhonAsked.{KhonAsked}
 use Rattle.khonvertseg.specs.declared.KhonPlanned.{KhonPlanned}

@@ -18,9 +18,8 @@ use Rattle.job.specs.declared.Job.{Job}
 use Rattle.job.specs.Job.{pieces_of, lay_of}
 use Rattle.tracer.specs.Inner.{Dissects}
 use Rattle.tracer.proofs.Best.{best_traced}
-use Rattle.desk.specs.Refusals.{not_inside, not_asked, alien_table, Usable}
-use Rattle.plan.specs.declared.Planned.{Planned}
-use Rattle.plan.specs.declared.Planned.TheVariants.{Written}
+use Rattle.refusals.specs.Refusals.{not_inside, not_asked, alien_table}
+use Rattle.desk.specs.Refusals.{Usable}
 use Rattle.plan.specs.File.{TreeFor}
 use Rattle.plan.specs.Inner.{tree_for, traces_for, plan_file, planned_with, planned, PlanPromise, HoldsBest}
 use Rattle.plan.specs.Refusals.{Readable, plan_refusals, PlanRefusal}
@@ -30,6 +29,7 @@ use Rattle.plan.proofs.Tracing.{hold, tree_by_rules, rules_tree, tree_dissects}
 use Rattle.plan.proofs.Exactly.{plan_number, plan_accepted}
 use Rattle.plan.proofs.Enough.{plan_enough_lem}
 use Rattle.plan.proofs.Promise.{plan_file_lem}
+use Rattle.plan.specs.Planning.{Planned, Written}
 
 module _ (job : Job) (t : List ℕ) (usable : Usable job t) (best : HoldsBest job t) (x y : ℕ) where
   module _ (i : Inside x y job.width job.height) (full : Full job.width t x y) where

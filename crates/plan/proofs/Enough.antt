@@ -12,7 +12,7 @@ use Rattle.cutting.proofs.Tree.{nodes_few}
 use Rattle.job.specs.declared.Job.{Job}
 use Rattle.job.specs.Job.{pieces_of}
 use Rattle.nodes.proofs.Encoding.{encode-length}
-use Rattle.desk.specs.Refusals.{bad_job, short_table, not_inside, not_asked, alien_table, short_buffer}
+use Rattle.refusals.specs.Refusals.{bad_job, short_table, not_inside, not_asked, alien_table, short_buffer}
 use Rattle.plan.specs.File.{sheet_of, file_of}
 use Rattle.plan.specs.Refusals.{plan_refusals, PlanRefusal}
 use Rattle.plan.specs.Enough.{plan_enough}

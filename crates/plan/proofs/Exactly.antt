@@ -21,7 +21,8 @@ use Rattle.fill.proofs.Growing.{full_says}
 use Rattle.job.specs.declared.Job.{Job}
 use Rattle.job.specs.Range.{JobInRange}
 use Rattle.job.proofs.Range.{job_says}
-use Rattle.desk.specs.Refusals.{bad_job, short_table, not_inside, not_asked, alien_table, short_buffer, cells_of}
+use Rattle.refusals.specs.Refusals.{bad_job, short_table, not_inside, not_asked, alien_table, short_buffer}
+use Rattle.desk.specs.Refusals.{cells_of}
 use Rattle.desk.proofs.Exactly.{inside_says, bounded_says}
 use Rattle.plan.specs.File.{TreeFor, file_of}
 use Rattle.plan.specs.Inner.{tree_for, plan_file, box_rows, plan_tests, box_refused, plan_refused, Ready}

@@ -17,8 +17,8 @@ use Rattle.job.specs.Block.{bytes_of_head, bytes_of_piece, bytes_of_pieces, bloc
 use Rattle.job.proofs.Range.{job_says}
 use Rattle.nodes.specs.Encoding.{node, encode}
 use Rattle.checker.specs.PlanFile.{body, pointers, summed, plan_bytes, PlanFile}
-use Rattle.plan.specs.declared.Planned.{Planned}
 use Rattle.plan.specs.Best.{PlansBest}
+use Rattle.plan.specs.Planning.{Planned}
 
 -- The job of K8, and a job with the turned sheet and the turned piece.
 abbrev asked : Job

@@ -11,12 +11,10 @@ use Rattle.cells.specs.Cells.{cell_of}
 use Rattle.job.specs.declared.Job.{Job}
 use Rattle.desk.specs.Inner.{accepted}
 use Rattle.desk.proofs.Answers.{given}
-use Rattle.plan.specs.declared.Planned.{Planned}
-use Rattle.plan.specs.declared.Planned.TheVariants.{Written}
 use Rattle.plan.specs.File.{file_of}
 use Rattle.plan.specs.Inner.{plan_file, plan_refused, planned_with, planned, planned_bytes, PlanPromise}
 use Rattle.plan.specs.Refusals.{PlanRefusal}
-use Rattle.plan.specs.Planning.{Plans}
+use Rattle.plan.specs.Planning.{Planned, Written, Plans}
 use Rattle.plan.proofs.Tracing.{tree_by_rules, rules_tree}
 use Rattle.plan.proofs.Exactly.{plan_number, plan_granted, plan_accepted}
 use Rattle.plan.proofs.Answers.{refused_answer}

@@ -12,18 +12,17 @@ use Rattle.cells.specs.Cells.{cell_of}
 use Rattle.job.specs.declared.Job.{Job}
 use Rattle.job.specs.Job.{pieces_of}
 use Rattle.job.specs.Range.{JobInRange}
-use Rattle.checker.specs.declared.Checked.{Checked}
+use Rattle.checker.specs.Checked.{Checked}
 use Rattle.checker.specs.Inner.{checked}
 use Rattle.checker.proofs.Accepts.{plan_accepted}
 use Rattle.desk.proofs.Answers.{given}
-use Rattle.plan.specs.declared.Planned.{Planned}
-use Rattle.plan.specs.declared.Planned.TheVariants.{Written}
 use Rattle.plan.specs.File.{sheet_of}
 use Rattle.plan.specs.Inner.{tree_for, plan_file, plan_refused, planned_with, planned, planned_bytes, Ready, PlanPromise, AcceptedAs}
 use Rattle.plan.proofs.Tracing.{tree_by_rules, tree_dissects}
 use Rattle.plan.proofs.Writing.{sheet_pieces}
 use Rattle.plan.proofs.Exactly.{plan_granted}
 use Rattle.plan.proofs.Answers.{cell_earned, file_short}
+use Rattle.plan.specs.Planning.{Planned, Written}
 
 -- Two answers that keep the promise are equal (rule 11.2): answer and all bytes.
 pub plan_unique : (job : Job) (t : List ℕ) (x y : ℕ) (o : List ℕ) {r s : Planned} {p q : List ℕ} → PlanPromise job t x y o r p → PlanPromise job t x y o s q

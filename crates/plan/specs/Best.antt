@@ -4,9 +4,8 @@ use Rattle.cutting.specs.Dissection.{Best}
 use Rattle.cutting.specs.Tree.{Tree, Valid, earning}
 use Rattle.job.specs.declared.Job.{Job}
 use Rattle.job.specs.Job.{pieces_of, lay_of}
-use Rattle.plan.specs.declared.Planned.{Planned}
-use Rattle.plan.specs.declared.Planned.TheVariants.{Written}
 use Rattle.plan.specs.File.{file_of}
+use Rattle.plan.specs.Planning.{Planned, Written}
 
 -- A best plan of x by y is in the buffer p, and r is the answer.
 pub record PlansBest (job : Job) (x y : ℕ) (r : Planned) (p : List ℕ) : Type 0 where

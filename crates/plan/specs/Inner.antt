@@ -1,5 +1,5 @@
 -- Plan as it computes; nobody has to believe it: `plan_exactly` says that it is `Plans`.
-use Rattle.std.specs.Prelude.{ℕ, suc, ◌≤◌, zero, ◌+◌, ◌*◌, Bool, cond, not, ◌&&◌, true, List, [], ◌∷◌, ◌≡◌, leb, eqb, length, take, drop}
+use Rattle.std.specs.Prelude.{ℕ, suc, ◌≤◌, zero, ◌+◌, ◌*◌, Bool, cond, not, ◌&&◌, true, List, [], ◌∷◌, ◌≡◌, leb, length, take, drop, Option, Some, None}
 use Rattle.laws.specs.Inner.{number_given}
 use Rattle.cutting.specs.Tree.{Tree}
 use Rattle.cells.specs.Cells.{cell_of, empty}
@@ -11,17 +11,17 @@ use Rattle.cutting.specs.Piece.{Inside}
 use Rattle.cells.specs.Box.{is_empty}
 use Rattle.cells.specs.Inner.{exceeds, any_in_box}
 use Rattle.job.specs.Inner.{within, job_in_range}
-use Rattle.desk.specs.Refusals.{cells_of, alien_table, short_buffer}
+use Rattle.refusals.specs.Refusals.{alien_table, short_buffer}
+use Rattle.desk.specs.Refusals.{cells_of}
 use Rattle.fields.specs.Format.{trailer_length}
 use Rattle.job.specs.Block.{block_length}
 use Rattle.laws.specs.Put.{put}
-use Rattle.checker.specs.declared.Checked.{Checked}
+use Rattle.checker.specs.Checked.{Checked}
 use Rattle.checker.specs.Inner.{checked}
 use Rattle.cutting.specs.Dissection.{Best}
 use Rattle.plan.specs.File.{file_of}
 use Rattle.plan.specs.Refusals.{Readable, plan_refusals}
-use Rattle.plan.specs.declared.Planned.{Planned}
-use Rattle.plan.specs.declared.Planned.TheVariants.{Written, Refused}
+use Rattle.plan.specs.Planning.{Planned, Written, Refused}
 
 -- The tree with what the board holds of the job, whether rule 6.6 strikes nowhere in it, and its
 -- file. `rules_tree` and `tree_by_rules` say that it is the tree by the rules.
@@ -62,9 +62,10 @@ box_refused job t x y = number_given (take box_rows (plan_refusals job t x y 0))
 unfoldable pub file_refused : Job → List ℕ → ℕ → ℕ → ℕ → ℕ
 file_refused job t x y room = number_given (drop box_rows (plan_refusals job t x y room)) (drop box_rows (plan_tests job t x y room))
 
--- The same by the length of the nodes, 0 where rule 6.6 strikes.
-unfoldable pub file_number : ℕ → ℕ → ℕ → ℕ
-file_number count nodes room = cond (eqb nodes 0) alien_table (cond (leb (block_length count + nodes + trailer_length) room) 0 short_buffer)
+-- The same by the length of the nodes, none where rule 6.6 strikes.
+unfoldable pub file_number : ℕ → Option ℕ → ℕ → ℕ
+file_number count (Some nodes) room = cond (leb (block_length count + nodes + trailer_length) room) 0 short_buffer
+file_number count None room = alien_table
 
 -- The answer with these numbers.
 abbrev pub planned_with : ℕ → ℕ → ℕ → Planned

@@ -1,13 +1,24 @@
 -- Plan (rule 4.10): the answer and all bytes of the lent buffer.
-use Rattle.std.specs.Prelude.{ℕ, suc, ◌≤◌, List, length}
+use Rattle.std.specs.Prelude.{ℕ, suc, ◌≤◌, List, length, Result, Ok, Err}
+use Rattle.refusals.specs.declared.Refusal.{Refusal}
+use Rattle.refusals.specs.Refusals.{number}
 use Rattle.laws.specs.Put.{put}
 use Rattle.cutting.specs.Tree.{Tree}
 use Rattle.cells.specs.Cells.{cell_of}
 use Rattle.job.specs.declared.Job.{Job}
 use Rattle.plan.specs.File.{TreeFor, file_of}
 use Rattle.plan.specs.Refusals.{Readable, PlanRefusal}
-use Rattle.plan.specs.declared.Planned.{Planned}
-use Rattle.plan.specs.declared.Planned.TheVariants.{Written, Refused}
+use Rattle.plan.specs.declared.Written.{Written as Values}
+
+-- The answer of plan: the file's length and its value, or the refusal's number.
+pub data Planned : Type 0 where
+  Written : ℕ → ℕ → Planned
+  Refused : ℕ → Planned
+
+-- The code's answer as that.
+abbrev pub planned_from : Result Values Refusal → Planned
+planned_from (Ok written) = Planned.Written written.length written.value
+planned_from (Err refusal) = Planned.Refused (number refusal)
 
 -- The number and the values of each case of the answer (rule 4.15).
 pub record PlannedNumbers : Type 0 where

@@ -7,7 +7,8 @@ use Rattle.cells.specs.Cells.{cell_of}
 use Rattle.fill.specs.Filled.{Full, Bounded}
 use Rattle.job.specs.declared.Job.{Job}
 use Rattle.job.specs.Range.{JobInRange}
-use Rattle.desk.specs.Refusals.{bad_job, short_table, not_inside, not_asked, alien_table, short_buffer, cells_of, Usable}
+use Rattle.refusals.specs.Refusals.{bad_job, short_table, not_inside, not_asked, alien_table, short_buffer}
+use Rattle.desk.specs.Refusals.{cells_of, Usable}
 use Rattle.plan.specs.File.{TreeFor, file_of}
 
 -- The job is usable, the rectangle lies inside its sheet, and each cell of the box is filled and within its bound.

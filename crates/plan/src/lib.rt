@@ -3,51 +3,37 @@
 #![tactic(auto)]
 
 ghost use Rattle.std.specs.Prelude.{◌≡◌};
-ghost use Rattle.job.specs.Range.{JobInRange};
-ghost use Rattle.board.specs.Inner.{blank, board_of};
+ghost use Rattle.plan.specs.Planning.{planned_from};
 ghost use Rattle.plan.specs.Inner.{PlanPromise};
 
-use board::{Board, PLACES};
-use fields::cast::wide;
+use board::Board;
 use job::Job;
-use tracer::FREE;
+use refusals::Refusal;
+use tracer::Wanted;
+use tracer::table::Table;
 use tracer::walk::measure;
 
 mod file;
 mod refusal;
 
-// The answer of plan: the file's length and its value, or the refusal's number.
-#[derive(Drop)]
-pub enum Planned {
-    Written(u32, u32),
-    Refused(u32),
-}
-
-// Lays the board of a job out. A call of its own, so that the stack of the job's copy is free again before the file is written (decision 42).
-fn lay_out(board: &mut Board, job: Job)
-    requires job_in_range { JobInRange job }
-    requires board_value { board.old ≡ blank }
-    ensures { board.new ≡ board_of job }
-{
-    board::lay_out(board, job);
+// What a written plan is answered with: its file's length, and its value.
+#[derive(Clone, Copy, Debug, PartialEq, Eq)]
+pub struct Written {
+    pub length: u32,
+    pub value: u32,
 }
 
 // Reads the table and writes the plan file of x by y at the start of o.
-pub fn plan(job: Job, t: &[u32], x: u32, y: u32, o: &mut [u8]) -> Planned
-    ensures { PlanPromise job t.now x y o.old result o.new }
+pub fn plan(job: Job, t: &[u32], x: u32, y: u32, o: &mut [u8]) -> Result<Written, Refusal>
+    ensures { PlanPromise job t.now x y o.old (planned_from result) o.new }
 {
-    let first = refusal::box_refused(job, t, x, y);
-    if first != 0 {
-        return Planned::Refused(first);
-    }
-    let mut board: Board = [0; PLACES];
-    lay_out(&mut board, job);
-    let nodes = measure(&board, t, x as usize, y as usize, FREE);
-    let second = refusal::file_refused(job.count, nodes, o.len());
-    if second != 0 {
-        return Planned::Refused(second);
-    }
-    let value = cells::cell(t, wide(job.width), x as usize, y as usize);
-    let length = file::write_file(job, &board, t, x, y, value, o);
-    Planned::Written(length as u32, value)
+    refusal::of_box(job, t, x, y)?;
+    let board = Board::of(&job);
+    let table = Table {
+        board: &board,
+        cells: t,
+    };
+    let nodes = measure(&table, x as usize, y as usize, Wanted::Free).ok_or(Refusal::AlienTable)?;
+    refusal::of_room(job.count, nodes, o.len())?;
+    Ok(file::write_file(&job, &table, x, y, o))
 }

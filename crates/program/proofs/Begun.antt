@@ -26,31 +26,21 @@ use Rattle.job.specs.Change.{with_added}
 use Rattle.job.proofs.Pieces.{pieces-length, pieces_at, pieces-job_of}
 use Rattle.job.proofs.Range.{PieceIn, RecordIn, in_range_each, new_in_range}
 use Rattle.job.proofs.Changed.{added_in_range}
-use Rattle.desk.specs.declared.Changed.{Changed}
-use Rattle.desk.specs.Refusals.{bad_piece, cells_of, Usable, open_refusals, add_refusals, AddRefusal}
+use Rattle.desk.specs.Changing.{Changed}
+use Rattle.refusals.specs.Refusals.{bad_piece}
+use Rattle.desk.specs.Refusals.{cells_of, Usable, open_refusals, add_refusals, AddRefusal}
 use Rattle.desk.specs.Changing.{Changes, SizeFits, Opens, Adds}
-use Rattle.desk.specs.Inner.{opened, opened_cells, added_job, added_cells}
+use Rattle.desk.specs.Inner.{added_job, added_cells}
 use Rattle.desk.proofs.Exactly.{add_number}
 use Rattle.desk.proofs.Granted.{add_granted}
 use Rattle.desk.proofs.Words.{open_exactly, add_exactly}
-use Rattle.desk.proofs.Answers.{given, left-as-it-was}
-use Rattle.program.specs.Entry.{Stand, added_to, added_to_cells, added_all}
+use Rattle.desk.proofs.Answers.{given}
+use Rattle.program.specs.Entry.{Stand, added_to, added_to_cells, added_all, begun}
+use Rattle.program.proofs.Entered.{still}
 
 -- No cell of the job's sheet is filled.
 abbrev pub NoneFilled : Job → List ℕ → Type 0
 NoneFilled job t = (u w : ℕ) → Inside u w job.width job.height → cell_of job.width t u w ≡ empty
-
--- After a refusal no piece is added.
-still : (before : Changed) (t : List ℕ) (piece : Record) → (before.refusal ≡ 0 → ⊥) → added_to before t piece ≡ before
-unfolding added_to
-still before t piece h = sym (left-as-it-was (added_job before.job t piece) before refl h)
-
-pub all_still : (start : Changed) (t : List ℕ) (pieces : List Record) (k : ℕ) → (start.refusal ≡ 0 → ⊥) → (added_all start t pieces k).answer ≡ start
-unfolding added_all
-all_still start t pieces zero h = refl
-all_still start t pieces (suc k) h =
-    let before = all_still start t pieces k h in
-    still _ _ _ (λ e. h (sym (ap (λ (c : Changed). c.refusal) before) ∙ e)) ∙ before
 
 -- Entering a job: open accepted its sheet, then k pieces were added.
 
@@ -146,7 +136,7 @@ module _ (from : Job) where
   module _ (t : List ℕ) (sides : Inside from.width from.height side_max side_max) (table : cells_of from ≤ length t)
       (most : from.count ≤ pieces_max) where
     abbrev after : ℕ → Stand
-    after k = added_all (opened from.width from.height t) (opened_cells from.width from.height t) from.pieces k
+    after k = begun from t k
 
     begins : Begun from 0 (after 0)
     unfolding added_all job_of by_index Gives open_refusals
@@ -172,5 +162,5 @@ module _ (from : Job) where
     enters (suc k) h =
         ⊎_elim (λ g. subst (λ (s : Stand). Begun from (suc k) s ⊎ BadPiece from s) (next_is k (omega arith) most (after k) g)
         (added_next k (omega arith) most (after k) g))
-        (λ b. inr (record { four = ap (λ (c : Changed). c.refusal) (still _ _ _ (λ e. omega (arith, b.four))) ∙ b.four; why = b.why }))
+        (λ b. inr (record { four = ap (λ (s : Stand). s.answer.refusal) (still (after k) _ (λ e. omega (arith, b.four))) ∙ b.four; why = b.why }))
         (enters k (omega arith))

@@ -1,6 +1,6 @@
 -- The program prints the best value and a plan that earns it, or exactly the refusal that the rules say (rules 9.2 to 9.5).
 use Prim.Native.Nat.{ℕ, suc, ◌*◌, ◌≤◌, ◌<◌}
-use mathlib.Core.Bool.{true}
+use Rattle.std.proofs.Common.{Some}
 use mathlib.Core.List.{List}
 use mathlib.Core.Logic.{◌⊎◌, inl, inr, ⊎_elim}
 use mathlib.Core.Path.{◌≡◌, refl, sym, ap, ◌∙◌, subst}
@@ -21,16 +21,15 @@ use Rattle.cells.specs.Cells.{empty, cell_of}
 use Rattle.cells.specs.Box.{count_in_box, is_empty}
 use Rattle.cells.proofs.Box.{is_empty_says, count_in_box_all}
 use Rattle.job.specs.declared.Job.{Job}
-use Rattle.job.specs.declared.Blocked.{Blocked}
 use Rattle.job.specs.Job.{pieces_of, lay_of}
 use Rattle.job.specs.Range.{JobInRange}
 use Rattle.job.specs.Block.{BlockShape, job_in, count_in, piece_in}
 use Rattle.job.specs.Inner.{from_block}
 use Rattle.job.proofs.Pieces.{job_of_tidy}
-use Rattle.job.proofs.Blocks.{shape_says, from_block_no, from_block_yes}
-use Rattle.desk.specs.declared.Changed.{Changed}
-use Rattle.desk.specs.Refusals.{bad_job, short_table, bad_piece, short_buffer, cells_of, Usable, open_refusals, OpenRefusal, ask_refusals, AskRefusal}
-use Rattle.desk.specs.Inner.{opened, opened_cells, filled_for}
+use Rattle.job.proofs.Blocks.{from_block_no, from_block_yes}
+use Rattle.refusals.specs.Refusals.{bad_job, short_table, bad_piece, short_buffer}
+use Rattle.desk.specs.Refusals.{cells_of, Usable, open_refusals, OpenRefusal, ask_refusals, AskRefusal}
+use Rattle.desk.specs.Inner.{opened, filled_for}
 use Rattle.desk.proofs.Exactly.{open_number, ask_number}
 use Rattle.desk.proofs.Words.{filled_for_lem}
 use Rattle.plan.specs.File.{TreeFor}
@@ -43,16 +42,16 @@ use Rattle.plan.proofs.Enough.{plan_enough_lem}
 use Rattle.plan.proofs.Best.{best_readable, best_tree}
 use Rattle.listing.specs.Line.{refused_text}
 use Rattle.program.specs.Sizes.{table_cells, plan_room}
-use Rattle.program.specs.Entry.{Stand, entered}
-use Rattle.program.specs.Program.{text_or, tree_lines, plan_text, planned_text, asked_text, entered_text, new_table, program_text}
+use Rattle.program.specs.Entry.{Stand, added_all, entered}
+use Rattle.program.specs.Program.{text_or, tree_lines, plan_text, planned_text, asked_text, entered_text, new_table, job_text, program_text}
 pub use Rattle.program.specs.Best.{BestTree, file_length, PrintsBest, PlanTooLong}
-use Rattle.program.proofs.Texts.{or_text, entered_refused_text, entered_text_lem, block_few, block_refused_text, block_text}
-use Rattle.program.proofs.Begun.{NoneFilled, all_still, Begun, BadPiece, enters}
+use Rattle.program.proofs.Texts.{or_refused, or_text, block_none, block_some, block_few}
+use Rattle.program.proofs.Entered.{entered_still}
+use Rattle.program.proofs.Begun.{NoneFilled, Begun, BadPiece, enters}
 
 -- Bytes that are no job block get 1 (rule 9.3).
 pub program_shapeless : (block : List ℕ) → (BlockShape block → ⊥) → program_text block ≡ refused_text bad_job
-program_shapeless block h =
-    sym (block_refused_text block (from_block_no block (sym (says_no (shape_says block) h)) refl refl) refl refl)
+program_shapeless block h = block_none block (sym (from_block_no block h))
 
 table-length : length new_table ≡ table_cells
 unfolding new_table
@@ -167,25 +166,28 @@ module _ (block : List ℕ) where
     abbrev stand : Stand
     stand = entered own new_table
 
-    read : ◌≡◌ {A = Blocked} (record { ok = true; job = own }) (from_block block)
-    read = from_block_yes block (sym ((shape_says block).found shape)) refl refl
+    is_read : Some own ≡ from_block block
+    is_read = from_block_yes block shape refl
 
     entered_prints : entered_text stand.answer stand.cells ≡ program_text block
-    entered_prints = block_text block read refl refl refl refl
+    unfolding job_text
+    entered_prints = block_some block (sym is_read)
 
     few : length (by_index (piece_in block) (count_in block)) ≤ pieces_max
     few = omega (arith, shape.most, by_index-length (piece_in block) (count_in block))
 
     -- What is refused before anything is asked.
     refused_prints : (n : ℕ) → stand.answer.refusal ≡ suc n → program_text block ≡ refused_text (suc n)
-    refused_prints n e = sym (entered_refused_text stand.answer stand.cells (λ z. omega arith) (sym e) ∙ entered_prints)
+    unfolding entered_text
+    refused_prints n e =
+        sym entered_prints ∙ (ap (λ (k : ℕ). text_or k (asked_text stand.answer.job stand.cells)) e ∙ sym (or_refused (suc n) (asked_text stand.answer.job stand.cells) (λ z. omega arith)))
 
     open_prints : (n : ℕ) → OpenRefusal a b new_table (suc n) → program_text block ≡ refused_text (suc n)
-    unfolding entered opened
+    unfolding added_all opened
     open_prints n q =
         let e = (open_number a b new_table).0 q in
-        let same = all_still (opened a b new_table) (opened_cells a b new_table) own.pieces own.count (λ z. omega (arith, e, z)) in
-        refused_prints n (ap (λ (c : Changed). c.refusal) same ∙ sym e)
+        let same = entered_still own new_table 0 (omega arith) (λ z. omega (arith, e, z)) in
+        refused_prints n (ap (λ (s : Stand). s.answer.refusal) same ∙ sym e)
 
     -- A side out of its range gets 1 (rule 9.3) ..
     pub program_bad_side : (Inside a b side_max side_max → ⊥) → program_text block ≡ refused_text bad_job
@@ -201,7 +203,7 @@ module _ (block : List ℕ) where
       module _ (cells : cells_of own ≤ table_cells) where
         goes : Begun own own.count stand ⊎ BadPiece own stand
         unfolding entered
-        goes = enters own new_table sides (omega (arith, cells, table-length)) (block_few block read) own.count (omega arith)
+        goes = enters own new_table sides (omega (arith, cells, table-length)) (block_few block is_read) own.count (omega arith)
 
         -- Entered, it is the block's own job again.
         same_job : Begun own own.count stand → stand.answer.job ≡ own
@@ -215,10 +217,11 @@ module _ (block : List ℕ) where
             (λ b. refused_prints 3 b.four) goes
 
         begun : Begun own own.count stand → PrintsBest block ⊎ PlanTooLong block
+        unfolding entered_text text_or
         begun g =
             let t = stand.cells in
             answered t (subst (λ (j : Job). Usable j t) (same_job g) g.usable) (subst (λ (j : Job). NoneFilled j t) (same_job g) g.cells)
-            (sym entered_prints ∙ (sym (entered_text_lem stand.answer t g.none) ∙ ap (λ (j : Job). asked_text j t) (same_job g)))
+            (sym entered_prints ∙ (ap (λ (k : ℕ). text_or k (asked_text stand.answer.job t)) g.none ∙ ap (λ (j : Job). asked_text j t) (same_job g)))
 
     -- A job in range whose sheet the table holds is answered with the best value and a plan that earns it (rule 9.5), or refused
     -- with 8, and only where the file of the plan by the rules is longer than the plan buffer (rule 9.2).

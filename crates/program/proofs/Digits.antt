@@ -7,7 +7,7 @@ use Rattle.laws.specs.Inner.{every_number}
 use Rattle.laws.proofs.Refusal.{number_within}
 use Rattle.job.specs.declared.Piece.{Piece as Record}
 use Rattle.job.specs.declared.Job.{Job}
-use Rattle.desk.specs.declared.Changed.{Changed}
+use Rattle.desk.specs.Changing.{Changed}
 use Rattle.desk.specs.Refusals.{open_refusals, add_refusals, ask_refusals}
 use Rattle.desk.specs.Inner.{accepted, open_tests, open_refused, add_tests, add_refused, ask_tests, ask_refused, opened, opened_cells, added_job}
 use Rattle.plan.specs.Refusals.{plan_refusals}

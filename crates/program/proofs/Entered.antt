@@ -1,38 +1,62 @@
--- Pieces added one by one, as the code goes.
-use Prim.Native.Nat.{ℕ, suc, ◌+◌}
-use mathlib.Core.Path.{◌≡◌, ◌∙◌}
-use mathlib.Core.List.{List}
-use native.Mathlib.Numerals.{add-one}
-use lib.ListN.{get_or}
+-- A job opened anew and its pieces added one by one, as the code goes: to the end, or to the first refusal.
+use Rattle.std.proofs.Common.{ℕ, zero, suc, ◌+◌, ◌-◌, ◌≤◌, ◌≡◌, refl, sym, ap, ◌∙◌, List, get_or, arith, add-zero, add-suc, Result, Ok, Err, IsErrAnd}
+use Rattle.std.proofs.Math.Numerals.{add-one}
+use Rattle.refusals.specs.declared.Refusal.{Refusal}
+use Rattle.refusals.specs.Refusals.{number}
+use Rattle.refusals.proofs.Numbers.{never_zero}
 use Rattle.job.specs.declared.Piece.{Piece as Record}
 use Rattle.job.specs.declared.Job.{Job}
 use Rattle.job.specs.Job.{no_record}
-use Rattle.desk.specs.declared.Changed.{Changed}
-use Rattle.desk.specs.Inner.{opened, opened_cells}
-use Rattle.program.specs.Entry.{added_to, added_to_cells, added_all, entered}
+use Rattle.desk.specs.Inner.{accepted, opened, opened_cells, added_job, added_cells}
+use Rattle.desk.proofs.Answers.{left-as-it-was}
+use Rattle.program.specs.Entry.{Stand, added_to, added_to_cells, added_all, begun, entered}
+use Rattle.program.specs.Inner.{AnswersAs}
 
-module _ (start : Changed) (t : List ℕ) (pieces : List Record) (k : ℕ) {answer after : Changed} {cells rest : List ℕ}
-    (e : answer ≡ (added_all start t pieces k).answer) (f : cells ≡ (added_all start t pieces k).cells) where
-  more : after ≡ added_to answer cells (get_or pieces k no_record) → rest ≡ added_to_cells answer cells (get_or pieces k no_record)
-      → (after ≡ (added_all start t pieces (suc k)).answer) × (rest ≡ (added_all start t pieces (suc k)).cells)
+-- After a refusal no piece is added.
+pub still : (s : Stand) (piece : Record) → (s.answer.refusal ≡ 0 → ⊥)
+    → ◌≡◌ {A = Stand} (record { answer = added_to s.answer s.cells piece; cells = added_to_cells s.answer s.cells piece }) s
+unfolding added_to added_to_cells
+still s piece h =
+    let answer = sym (left-as-it-was (added_job s.answer.job s.cells piece) s.answer refl h) in
+    let cells = sym (left-as-it-was (added_cells s.answer.job s.cells piece) s.cells refl h) in
+    λ i. record { answer = answer i; cells = cells i }
+
+module _ (from : Job) (t : List ℕ) where
+  begun_still : (k d : ℕ) → ((begun from t k).answer.refusal ≡ 0 → ⊥) → begun from t (k + d) ≡ begun from t k
   unfolding added_all
-  more g h = (g ∙ (λ i. added_to (e i) (f i) (get_or pieces k no_record)), h ∙ (λ i. added_to_cells (e i) (f i) (get_or pieces k no_record)))
+  begun_still k zero h = ap (begun from t) (add-zero k)
+  begun_still k (suc d) h =
+      let before = begun_still k d h in
+      ap (begun from t) (add-suc k d) ∙ (still _ _ (λ e. h (sym (ap (λ (s : Stand). s.answer.refusal) before) ∙ e)) ∙ before)
 
-  pub added_more : after ≡ added_to answer cells (get_or pieces k no_record) → rest ≡ added_to_cells answer cells (get_or pieces k no_record)
-      → (after ≡ (added_all start t pieces (k + 1)).answer) × (rest ≡ (added_all start t pieces (k + 1)).cells)
-  added_more g h = rw add-one (more g h)
+  pub entered_still : (k : ℕ) → k ≤ from.count → ((begun from t k).answer.refusal ≡ 0 → ⊥) → entered from t ≡ begun from t k
+  unfolding entered
+  entered_still k h n =
+      let all : from.count ≡ k + (from.count - k) = omega arith in
+      ap (begun from t) all ∙ begun_still k (from.count - k) n
 
-pub added_end : (start : Changed) (t : List ℕ) (pieces : List Record) {k n : ℕ} {answer : Changed} {cells : List ℕ} → k ≡ n
-    → (answer ≡ (added_all start t pieces k).answer) × (cells ≡ (added_all start t pieces k).cells)
-    → (answer ≡ (added_all start t pieces n).answer) × (cells ≡ (added_all start t pieces n).cells)
-added_end start t pieces e h = (h.0 ∙ (λ i. (added_all start t pieces (e i)).answer), h.1 ∙ (λ i. (added_all start t pieces (e i)).cells))
+  -- The first refusal stands.
+  pub entered_stopped : (k : ℕ) (refusal : Refusal) {cells : List ℕ} (r : Result Job Refusal) → k ≤ from.count
+      → number refusal ≡ (begun from t k).answer.refusal → cells ≡ (begun from t k).cells → IsErrAnd r (λ e. e ≡ refusal)
+      → AnswersAs r (entered from t).answer × (cells ≡ (entered from t).cells)
+  entered_stopped k refusal (Ok job) h e f q = absurd q
+  entered_stopped k refusal (Err other) h e f q =
+      let same = sym (entered_still k h (λ z. never_zero refusal (e ∙ z))) in
+      (ap number q ∙ (e ∙ ap (λ (s : Stand). s.answer.refusal) same), f ∙ ap (λ (s : Stand). s.cells) same)
 
--- Opened, and the pieces added.
-pub entered_as : (from : Job) (t : List ℕ) {a b : ℕ} {start after : Changed} {cells rest : List ℕ} {n : ℕ} → a ≡ from.width → b ≡ from.height
-    → start ≡ opened a b t → cells ≡ opened_cells a b t → n ≡ from.count → after ≡ (added_all start cells from.pieces n).answer
-    → rest ≡ (added_all start cells from.pieces n).cells → (after ≡ (entered from t).answer) × (rest ≡ (entered from t).cells)
-unfolding entered
-entered_as from t {a} {b} e f g h i j k =
-    let start = g ∙ (λ i. opened (e i) (f i) t) in
-    let cells = h ∙ (λ i. opened_cells (e i) (f i) t) in
-    (j ∙ (λ m. (added_all (start m) (cells m) from.pieces (i m)).answer), k ∙ (λ m. (added_all (start m) (cells m) from.pieces (i m)).cells))
+  -- One more piece.
+  pub begun_more : (k : ℕ) {job : Job} {cells : List ℕ} {piece : Record} → AnswersAs (Ok job) (begun from t k).answer → cells ≡ (begun from t k).cells
+      → piece ≡ get_or from.pieces k no_record
+      → (added_job job cells piece ≡ (begun from t (k + 1)).answer) × (added_cells job cells piece ≡ (begun from t (k + 1)).cells)
+  unfolding added_all added_to added_to_cells accepted
+  begun_more k {job} {cells} {piece} e f g =
+      rw add-one (
+        λ i. accepted (e i).refusal (added_job (e i).job (f i) (g i)) (e i),
+        λ i. accepted (e i).refusal (added_cells (e i).job (f i) (g i)) (f i),
+      )
+
+-- The sheet opened.
+pub begun_none : (from : Job) (t : List ℕ) {a b : ℕ} → a ≡ from.width → b ≡ from.height
+    → (opened a b t ≡ (begun from t 0).answer) × (opened_cells a b t ≡ (begun from t 0).cells)
+unfolding added_all
+begun_none from t e f = (λ i. opened (e i) (f i) t, λ i. opened_cells (e i) (f i) t)

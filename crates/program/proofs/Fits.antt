@@ -1,6 +1,6 @@
 -- The text buffer has room for every text: a line for each node (rule 9.5) of a plan that its buffer holds.
+use Rattle.std.proofs.Common.{Option, Some, None}
 use Prim.Native.Nat.{ℕ, zero, suc, ◌*◌, ◌≤◌, ◌<◌}
-use mathlib.Core.Bool.{Bool, true, false, cond}
 use mathlib.Core.Path.{◌≡◌, refl}
 use mathlib.Core.List.{List}
 use native.Mathlib.Omega.{arith}
@@ -17,16 +17,15 @@ use Rattle.job.specs.declared.Job.{Job}
 use Rattle.job.specs.Job.{pieces_of}
 use Rattle.job.specs.Inner.{from_block}
 use Rattle.job.proofs.Pieces.{pieces-length}
-use Rattle.desk.specs.Refusals.{bad_job}
+use Rattle.refusals.specs.Refusals.{bad_job}
 use Rattle.desk.specs.Inner.{filled_for}
 use Rattle.plan.specs.File.{sheet_of}
 use Rattle.plan.specs.Inner.{tree_for, plan_refused}
 use Rattle.plan.proofs.Tracing.{tree_by_rules, tree_dissects}
 use Rattle.plan.proofs.Writing.{file-length}
-use Rattle.listing.specs.Line.{refused_text}
 use Rattle.listing.proofs.Lengths.{head-length, refused-length, listing-length}
 use Rattle.program.specs.Sizes.{plan_room, text_most}
-use Rattle.program.specs.Program.{text_or, tree_lines, plan_text, planned_text, asked_text, entered_text, new_table, job_text, program_text}
+use Rattle.program.specs.Program.{text_or, tree_lines, plan_text, planned_text, asked_text, entered_text, new_table, job_text, block_text, program_text}
 use Rattle.program.proofs.Texts.{plan_with}
 use Rattle.program.proofs.Digits.{ask_digits, plan_digits, entered_digits}
 
@@ -74,9 +73,9 @@ unfolding job_text entered_text
 job_fits from = or_fits _ _ (entered_digits from new_table) (λ _. asked_fits _ _)
 
 pub text_fits : (block : List ℕ) → length (program_text block) ≤ text_most
-unfolding program_text
-text_fits block = by (from_block block).ok
+unfolding program_text block_text
+text_fits block = by (from_block block)
   where
-    by : (b : Bool) → length (cond b (job_text (from_block block).job) (refused_text bad_job)) ≤ text_most
-    by true = job_fits (from_block block).job
-    by false = omega (arith, refused-length bad_job (omega arith))
+    by : (o : Option Job) → length (block_text o) ≤ text_most
+    by (Some from) = job_fits from
+    by None = omega (arith, refused-length bad_job (omega arith))

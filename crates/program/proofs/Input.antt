@@ -7,7 +7,7 @@ use native.Mathlib.Omega.{arith}
 use lib.ListN.{length, take, length-take}
 use lib.Seq.{take_all}
 use Rattle.laws.proofs.Order.{le_or_lt}
-use Rattle.desk.specs.Refusals.{bad_job}
+use Rattle.refusals.specs.Refusals.{bad_job}
 use Rattle.listing.specs.Line.{refused_text}
 use Rattle.program.specs.Sizes.{input_most}
 use Rattle.program.specs.Program.{program_text}

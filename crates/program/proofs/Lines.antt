@@ -15,6 +15,7 @@ use Rattle.job.specs.Block.{block_of, block_length}
 use Rattle.job.specs.Range.{JobInRange}
 use Rattle.job.proofs.Blocks.{block-length}
 use Rattle.job.proofs.Pieces.{pieces-length}
+use Rattle.board.specs.declared.Board.{Board}
 use Rattle.board.specs.Inner.{pieces_on, pieces_board}
 use Rattle.board.proofs.Holds.{pieces_read}
 use Rattle.nodes.specs.Encoding.{encode}
@@ -22,7 +23,8 @@ use Rattle.nodes.specs.Reads.{Found}
 use Rattle.nodes.proofs.Encoding.{found_first, found_second}
 use Rattle.checker.specs.PlanFile.{body, pointers, summed, plan_bytes}
 use Rattle.plan.specs.File.{sheet_of}
-use Rattle.listing.specs.declared.Ends.{Ends}
+use Rattle.printing.specs.declared.Text.{Text}
+use Rattle.std.proofs.Common.{Option}
 use Rattle.listing.specs.declared.Section.{Section}
 use Rattle.listing.specs.Inner.{section, MayList, ListsThere}
 use Rattle.program.specs.Inner.{HoldsPlan, ListsPlan}
@@ -49,7 +51,7 @@ module _ (job : Job) where
       record { place = refl; bytes = there.bytes ∙ ap (λ (k : ℕ). encode tree ++ drop k buffer) there.place }
 
   -- The part that the code lists is the whole sheet, with the pieces of the job's board.
-  module _ {board : List ℕ} {n at x y : ℕ} (set : board ≡ pieces_board job) (count : n ≡ job.count) (start : at ≡ block_length n)
+  module _ {board : Board} {n at x y : ℕ} (set : board ≡ pieces_board job) (count : n ≡ job.count) (start : at ≡ block_length n)
       (wide : x ≡ job.width) (high : y ≡ job.height) where
     abbrev whole : Section
     whole = section (block_length job.count) 1 job.width job.height
@@ -71,9 +73,9 @@ module _ (job : Job) where
           low = omega (arith, r.width_most, r.height_most);
         }))
 
-    pub lists_plan : {file o p : List ℕ} {to : ℕ} {ends : Ends} → JobInRange job → ListsThere (pieces_on board) file (section at 1 x y) o to ends p
-        → ListsPlan job file o to ends.text p
-    lists_plan {file} {o} {p} {to} {ends} r h tree held =
-        let here = subst (λ (q : Section). ListsThere (pieces_on board) file q o to ends p) is_whole h in
-        let listed = subst (λ (pieces : List Piece). ListsThere pieces file whole o to ends p) (read r) here in
+    pub lists_plan : {file : List ℕ} {t u : Text} {next : Option ℕ} → JobInRange job → ListsThere (pieces_on board) file (section at 1 x y) t next u
+        → ListsPlan job file t u
+    lists_plan {file} {t} {u} {next} r h tree held =
+        let here = subst (λ (q : Section). ListsThere (pieces_on board) file q t next u) is_whole h in
+        let listed = subst (λ (pieces : List Piece). ListsThere pieces file whole t next u) (read r) here in
         (listed tree _ (record { valid = held.valid; found = nodes_found held })).text

@@ -5,7 +5,9 @@ use mathlib.Core.List.{List}
 use native.Mathlib.Omega.{arith}
 use lib.ListN.{length, take}
 use Rattle.laws.proofs.Put.{put_front}
-use Rattle.printing.specs.Inner.{Printed}
+use Rattle.laws.specs.Put.{put}
+use Rattle.printing.specs.declared.Text.{Text}
+use Rattle.printing.specs.Inner.{Writes}
 use Rattle.printing.proofs.Printed.{printed_put}
 use Rattle.program.specs.Sizes.{text_most}
 use Rattle.program.specs.Program.{program_text}
@@ -26,6 +28,9 @@ module _ (block o : List ℕ) {p : List ℕ} {r : ℕ} (f : ProgramPromise block
   pub program_within : r ≡ length (take r p)
   program_within = f.0 ∙ sym (ap length program_prints)
 
--- What was printed with room for every text.
-pub kept : (block : List ℕ) {o p : List ℕ} {r : ℕ} → length o ≡ text_most → Printed o 0 (program_text block) r p → ProgramPromise block o r p
-kept block h w = let k = printed_put (omega (arith, text_fits block)) w in (omega (arith, k.0), k.1)
+-- What was printed with room for every text, on a row from its start.
+pub kept : (block : List ℕ) {t u : Text} → t.at ≡ 0 → length t.row.now ≡ text_most → Writes t (program_text block) u
+    → ProgramPromise block t.row.now u.at u.row.now
+kept block {t} e h w =
+    let k = printed_put (omega (arith, e, text_fits block)) w.printed in
+    (omega (arith, k.0, e), k.1 ∙ ap (λ (n : ℕ). put t.row.now n (program_text block)) e)

@@ -7,7 +7,7 @@ use Rattle.cells.specs.Cells.{cell_of}
 use Rattle.job.specs.declared.Job.{Job}
 use Rattle.job.specs.Job.{pieces_of, lay_of}
 use Rattle.job.specs.Block.{job_in}
-use Rattle.desk.specs.Refusals.{short_buffer}
+use Rattle.refusals.specs.Refusals.{short_buffer}
 use Rattle.plan.specs.File.{TreeFor, file_of}
 use Rattle.listing.specs.Line.{head_text, refused_text}
 use Rattle.listing.specs.Listing.{listing}

@@ -3,7 +3,7 @@ use Rattle.std.specs.Prelude.{ℕ, zero, suc, List, get_or}
 use Rattle.job.specs.declared.Piece.{Piece as Record}
 use Rattle.job.specs.declared.Job.{Job}
 use Rattle.job.specs.Job.{no_record}
-use Rattle.desk.specs.declared.Changed.{Changed}
+use Rattle.desk.specs.Changing.{Changed}
 use Rattle.desk.specs.Inner.{accepted, opened, opened_cells, added_job, added_cells}
 
 -- What stands after a call: its answer and the cells.
@@ -26,6 +26,10 @@ added_all start t pieces (suc k) =
     let piece = get_or pieces k no_record in
     record { answer = added_to before.answer before.cells piece; cells = added_to_cells before.answer before.cells piece }
 
--- A job opened with the sides of another, and its pieces added.
+-- A job opened with the sides of another, and its first k pieces added ..
+abbrev pub begun : Job → List ℕ → ℕ → Stand
+begun from t = added_all (opened from.width from.height t) (opened_cells from.width from.height t) from.pieces
+
+-- .. and all of them.
 unfoldable pub entered : Job → List ℕ → Stand
-entered from t = added_all (opened from.width from.height t) (opened_cells from.width from.height t) from.pieces from.count
+entered from t = begun from t from.count

@@ -1,12 +1,12 @@
 -- The text that the program prints for its input (rule 9.1).
-use Rattle.std.specs.Prelude.{ℕ, zero, suc, cond, List, ◌++◌, replicate}
+use Rattle.std.specs.Prelude.{ℕ, zero, suc, List, ◌++◌, replicate, Option, Some, None}
 use Rattle.cells.specs.Cells.{cell_of}
 use Rattle.cells.specs.Box.{is_empty, count_in_box}
 use Rattle.job.specs.declared.Job.{Job}
 use Rattle.job.specs.Job.{pieces_of}
 use Rattle.job.specs.Inner.{from_block}
-use Rattle.desk.specs.declared.Changed.{Changed}
-use Rattle.desk.specs.Refusals.{bad_job}
+use Rattle.desk.specs.Changing.{Changed}
+use Rattle.refusals.specs.Refusals.{bad_job}
 use Rattle.desk.specs.Inner.{ask_refused, filled_for}
 use Rattle.plan.specs.Inner.{tree_for, plan_refused}
 use Rattle.listing.specs.Line.{head_text, refused_text}
@@ -51,5 +51,9 @@ unfoldable pub job_text : Job → List ℕ
 job_text from = entered_text (entered from new_table).answer (entered from new_table).cells
 
 -- Bytes that are no job block (rule 4.14) get 1 (rule 9.3).
+unfoldable pub block_text : Option Job → List ℕ
+block_text (Some job) = job_text job
+block_text None = refused_text bad_job
+
 unfoldable pub program_text : List ℕ → List ℕ
-program_text block = cond (from_block block).ok (job_text (from_block block).job) (refused_text bad_job)
+program_text block = block_text (from_block block)

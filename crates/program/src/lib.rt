@@ -4,10 +4,8 @@
 
 ghost use Rattle.program.specs.Promise.{ProgramPromise};
 
-use desk::refusal;
-use fields::cast::widened;
-use job::block::from_block;
 use listing::line::put_refused;
+use printing::Text;
 
 mod entry;
 mod whole;
@@ -24,12 +22,9 @@ pub const TEXT: usize = 414_805;
 pub fn run(block: &[u8], text: &mut [u8; TEXT]) -> usize
     ensures { ProgramPromise block.now text.old result text.new }
 {
-    let blocked = from_block(block);
-    if !blocked.ok {
-        return put_refused(text, 0, widened(refusal::JOB));
+    let mut out = Text::new(text);
+    if let Err(refusal) = whole::print_sheet(block, &mut out) {
+        put_refused(&mut out, u32::from(refusal) as usize);
     }
-    let from = blocked.job;
-    let mut cells = [0; CELLS];
-    let entered = entry::enter(from, &mut cells);
-    whole::print_entered(entered, &mut cells, text)
+    out.at
 }

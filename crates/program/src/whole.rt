@@ -1,76 +1,61 @@
-// The whole sheet: asked, planned and printed.
+// The whole sheet: entered, asked, planned and printed.
 ghost use Rattle.job.specs.Range.{JobInRange};
-ghost use Rattle.printing.specs.Inner.{Printed};
-ghost use Rattle.program.specs.Inner.{ListsPlan, PrintsPlan};
-ghost use Rattle.program.specs.Program.{planned_text, asked_text, entered_text};
+ghost use Rattle.program.specs.Inner.{ListsPlan, PrintsPlan, PrintsText};
+ghost use Rattle.program.specs.Program.{program_text};
 
-use crate::PLAN;
-use board::{Board, PLACES, set_pieces};
-use desk::{Asked, Changed, question};
-use fields::cast::{long, wide, widened};
+use crate::entry::enter;
+use crate::{CELLS, PLAN};
+use board::Board;
+use desk::question::{self, Answer};
 use job::Job;
-use job::block::block_length;
+use job::block::{block_length, from_block};
 use listing::Section;
-use listing::line::{put_head, put_refused};
+use listing::line::put_head;
 use listing::part::list;
-use plan::Planned;
+use nodes::Nodes;
+use printing::Text;
+use refusals::Refusal;
 
 // The lines of the sheet's tree, read off the nodes of its plan file.
-fn list_for(job: Job, file: &[u8], text: &mut [u8], at: usize) -> usize
-    requires { JobInRange job }
-    ensures { ListsPlan job file.now text.old at result text.new }
+fn list_for(job: &Job, file: &[u8], text: &mut Text)
+    requires { JobInRange job.now }
+    ensures { ListsPlan job.now file.now text.old text.new }
 {
-    let mut board: Board = [0; PLACES];
-    set_pieces(&mut board, job);
-    let section = Section {
-        at: block_length(wide(job.count)),
-        level: 1,
-        width: wide(job.width),
-        height: wide(job.height),
+    let board = Board::of_pieces(job);
+    let nodes = Nodes {
+        board: &board,
+        bytes: file,
     };
-    let ends = list(&board, file, section, text, at);
-    ends.text
+    let section = Section {
+        at: block_length(usize::from(job.count)),
+        level: 1,
+        width: usize::from(job.width),
+        height: usize::from(job.height),
+    };
+    let _ = list(&nodes, section, text);
 }
 
 // The first line, and the lines of the tree.
-fn print_plan(job: Job, file: &[u8], text: &mut [u8], value: u32, worked: u32) -> usize
-    requires { JobInRange job }
-    ensures { PrintsPlan job file.now value worked text.old result text.new }
+fn print_plan(job: &Job, file: &[u8], answer: Answer, text: &mut Text)
+    requires { JobInRange job.now }
+    ensures { PrintsPlan job.now file.now answer.value answer.worked text.old text.new }
 {
-    let next = put_head(text, 0, widened(value), widened(worked));
-    list_for(job, file, text, next)
+    put_head(text, answer.value as usize, answer.worked as usize);
+    list_for(job, file, text);
 }
 
-// Plans the sheet of a job that was asked with this answer.
-fn print_asked(job: Job, cells: &[u32], text: &mut [u8], value: u32, worked: u32) -> usize
-    ensures { Printed text.old 0 (planned_text job cells.now value worked) result text.new }
+// Prints the plan of a block's whole sheet; where something is refused, nothing.
+pub fn print_sheet(block: &[u8], text: &mut Text) -> Result<(), Refusal>
+    ensures { PrintsText (program_text block.now) text.old result text.new }
 {
+    let from = from_block(block).ok_or(Refusal::BadJob)?;
+    let mut cells = [0; CELLS];
+    let job = enter(&from, &mut cells)?;
+    let width = u32::from(job.width);
+    let height = u32::from(job.height);
+    let answer = question::ask(job, &mut cells, width, height)?;
     let mut file = [0; PLAN];
-    let answer = plan::plan(job, cells, long(job.width), long(job.height), &mut file);
-    match answer {
-        Planned::Refused(number) => put_refused(text, 0, widened(number)),
-        Planned::Written(_, _) => print_plan(job, &file, text, value, worked),
-    }
-}
-
-// Asks the sheet of a job.
-fn print_job(job: Job, cells: &mut [u32], text: &mut [u8]) -> usize
-    ensures { Printed text.old 0 (asked_text job cells.old) result text.new }
-{
-    let answer = question::ask(job, cells, long(job.width), long(job.height));
-    match answer {
-        Asked::Refused(number) => put_refused(text, 0, widened(number)),
-        Asked::Answered(value, worked) => print_asked(job, cells, text, value, worked),
-    }
-}
-
-// The job as it was entered, unless that was refused.
-pub fn print_entered(entered: Changed, cells: &mut [u32], text: &mut [u8]) -> usize
-    ensures { Printed text.old 0 (entered_text entered cells.old) result text.new }
-{
-    if entered.refusal != 0 {
-        return put_refused(text, 0, widened(entered.refusal));
-    }
-    let job = entered.job;
-    print_job(job, cells, text)
+    plan::plan(job, &cells, width, height, &mut file)?;
+    print_plan(&job, &file, answer, text);
+    Ok(())
 }

@@ -1,71 +1,59 @@
-use mathlib.Core.Path.{refl}
-use native.Mathlib.Omega.{arith}
-use Rattle.plan.proofs.Tracing.{traceable, measured_short}
+use Rattle.std.proofs.Common.{refl, ◌∙◌, sym, ap}
+use Rattle.refusals.specs.Refusals.{number}
+use Rattle.refusals.proofs.Numbers.{never_zero, refused_with}
+use Rattle.plan.proofs.Tracing.{sized, holds, traceable, measured_short}
 use Rattle.plan.proofs.Exactly.{readable_of, plan_granted}
-use Rattle.plan.proofs.Answers.{refused_answer, written_answer, cell_there, cell_read, length_fits, box_decides, file_decides}
-use Rattle.plan.specs.Inner.{planned, planned_bytes}
+use Rattle.plan.proofs.Answers.{plan_left, written_answer, box_decides, file_decides}
+use Rattle.plan.specs.Inner.{planned, planned_bytes, file_number}
 use Rattle.plan.proofs.plan.Goals as goal
 
 -- `plan` answers and writes as it promises.
-pub returns-then-first-ne0 : goal.returns-then-first-ne0
+pub returns-in_err-of_box : goal.returns-in_err-of_box
 unfolding planned planned_bytes
-returns-then-first-ne0 c = refused_answer _ _ _ (box_decides _ _ _ _ _ c.box_refused-first.ensures c.if-first-ne0.true) c.if-first-ne0.true
+returns-in_err-of_box c =
+    plan_left _ _ _ _ _ _ c.from_residual.ensures.1 (box_decides _ _ _ _ _ c.in_err-of_box.ensures (never_zero _))
 
-pub lay_out-requires : goal.lay_out-requires
-lay_out-requires c = record {
-  job_in_range = (readable_of _ _ _ _ c.box_refused-first.ensures c.if-first-ne0.false).usable.range;
-  board_value = refl;
-}
+pub of-board-requires : goal.of-board-requires
+of-board-requires c = (readable_of _ _ _ _ c.in_ok-of_box.ensures refl).usable.range
 
-pub measure-nodes-requires : goal.measure-nodes-requires
-measure-nodes-requires c =
-    traceable _ _ _ _ (readable_of _ _ _ _ c.box_refused-first.ensures c.if-first-ne0.false) c.lay_out.ensures
+pub invariant_of-table : goal.invariant_of-table
+invariant_of-table c =
+    let read = readable_of _ _ _ _ c.in_ok-of_box.ensures refl in
+    record { sized = sized _ _ _ _ read c.of-board.ensures; holds = holds _ _ _ _ read c.of-board.ensures }
 
-pub file_refused-second-requires : goal.file_refused-second-requires
-file_refused-second-requires c =
-    let read = readable_of _ _ _ _ c.box_refused-first.ensures c.if-first-ne0.false in
-    measured_short _ _ _ _ read c.lay_out.ensures c.measure-nodes.ensures
+pub measure-requires : goal.measure-requires
+measure-requires c = traceable _ _ _ _ (readable_of _ _ _ _ c.in_ok-of_box.ensures refl) c.of-board.ensures
 
-pub returns-then-second-ne0 : goal.returns-then-second-ne0
+pub returns-in_err-nodes : goal.returns-in_err-nodes
+unfolding planned planned_bytes file_number
+returns-in_err-nodes c =
+    let box = c.in_ok-of_box.ensures in
+    let none = c.in_err-nodes.ensures in
+    plan_left _ _ _ _ _ _ c.from_residual-in_err-nodes.ensures.1
+    (file_decides _ _ _ _ _ (readable_of _ _ _ _ box refl) box refl c.of-board.ensures (sym none.ok_part ∙ c.measure.ensures) (ap number (refused_with _ none.value)))
+
+pub of_room-requires : goal.of_room-requires
+of_room-requires c =
+    measured_short _ _ _ _ (readable_of _ _ _ _ c.in_ok-of_box.ensures refl) c.of-board.ensures c.measure.ensures c.in_ok-nodes.ensures.ok_part
+
+pub returns-in_err-of_room : goal.returns-in_err-of_room
 unfolding planned planned_bytes
-returns-then-second-ne0 c =
-    let free = c.if-first-ne0.false in
-    let box = c.box_refused-first.ensures in
-    let laid = c.lay_out.ensures in
-    let number = file_decides _ _ _ _ _ (readable_of _ _ _ _ box free) box free laid c.measure-nodes.ensures c.file_refused-second.ensures in
-    refused_answer _ _ _ number c.if-second-ne0.true
+returns-in_err-of_room c =
+    let box = c.in_ok-of_box.ensures in
+    let nodes = sym c.in_ok-nodes.ensures.ok_part ∙ c.measure.ensures in
+    plan_left _ _ _ _ _ _ c.from_residual-in_err-of_room.ensures.1
+    (file_decides _ _ _ _ _ (readable_of _ _ _ _ box refl) box refl c.of-board.ensures nodes c.in_err-of_room.ensures)
 
-pub cell-value-requires : goal.cell-value-requires
-cell-value-requires c =
-    let both = cell_there _ _ _ _ (readable_of _ _ _ _ c.box_refused-first.ensures c.if-first-ne0.false) c.wide.ensures.value in
-    record { holds = both.0; inside = both.1 }
-
-pub write_file-length-requires : goal.write_file-length-requires
-write_file-length-requires c =
-    let free = c.if-first-ne0.false in
-    let box = c.box_refused-first.ensures in
-    let laid = c.lay_out.ensures in
-    let number = file_decides _ _ _ _ _ (readable_of _ _ _ _ box free) box free laid c.measure-nodes.ensures c.file_refused-second.ensures in
-    let read = cell_read c.args.job _ _ _ c.cell-value.ensures c.wide.ensures.value in
-    record {
-      ready = (plan_granted _ _ _ _ _ number c.if-second-ne0.false, laid);
-      value_value = read;
-    }
-
-pub overflow_cast-result : goal.overflow_cast-result
-overflow_cast-result c =
-    let free = c.if-first-ne0.false in
-    let box = c.box_refused-first.ensures in
-    let laid = c.lay_out.ensures in
-    let number = file_decides _ _ _ _ _ (readable_of _ _ _ _ box free) box free laid c.measure-nodes.ensures c.file_refused-second.ensures in
-    omega (arith, length_fits _ _ _ _ (plan_granted _ _ _ _ _ number c.if-second-ne0.false) c.write_file-length.ensures)
+pub write_file-requires-clause-ready : goal.write_file-requires-clause-ready
+write_file-requires-clause-ready c =
+    let box = c.in_ok-of_box.ensures in
+    let nodes = sym c.in_ok-nodes.ensures.ok_part ∙ c.measure.ensures in
+    plan_granted _ _ _ _ _ (file_decides _ _ _ _ _ (readable_of _ _ _ _ box refl) box refl c.of-board.ensures nodes c.in_ok-of_room.ensures) refl
 
 pub returns : goal.returns
 unfolding planned planned_bytes
 returns c =
-    let box = c.box_refused-first.ensures in
-    let free = c.if-first-ne0.false in
-    let laid = c.lay_out.ensures in
-    let number = file_decides _ _ _ _ _ (readable_of _ _ _ _ box free) box free laid c.measure-nodes.ensures c.file_refused-second.ensures in
-    written_answer number c.if-second-ne0.false c.write_file-length.ensures
-    (cell_read c.args.job _ _ _ c.cell-value.ensures c.wide.ensures.value)
+    let box = c.in_ok-of_box.ensures in
+    let nodes = sym c.in_ok-nodes.ensures.ok_part ∙ c.measure.ensures in
+    let number = file_decides _ _ _ _ _ (readable_of _ _ _ _ box refl) box refl c.of-board.ensures nodes c.in_ok-of_room.ensures in
+    written_answer number refl c.write_file.ensures.file c.write_file.ensures.value

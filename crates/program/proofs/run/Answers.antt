@@ -1,22 +1,16 @@
-use mathlib.Core.Path.{refl}
-use native.Mathlib.Omega.{arith}
+use Rattle.std.proofs.Common.{ℕ, List, arith, sym, ap, ◌∙◌, subst}
+use Rattle.printing.specs.Inner.{Printed}
+use Rattle.listing.specs.Line.{refused_text}
+use Rattle.program.specs.Program.{program_text}
 use Rattle.printing.proofs.Printed.{printed_as}
-use Rattle.program.specs.Program.{new_table}
-use Rattle.program.proofs.Texts.{block_few, block_refused_text, block_text}
 use Rattle.program.proofs.Promise.{kept}
 use Rattle.program.proofs.run.Goals as goal
 
--- `run` meets its contract. The table starts as `new_table`, and the text has room.
-pub returns-then-not-blocked : goal.returns-then-not-blocked
-returns-then-not-blocked c =
-    let text = block_refused_text _ c.from_block-blocked.ensures c.if-not-blocked.true c.widened.ensures in
-    kept _ (omega arith) (printed_as text c.put_refused.ensures)
+-- `run` meets its contract: the text has room.
+pub returns-in-Ok : goal.returns-in-Ok
+returns-in-Ok c = kept _ (omega arith) c.in-Ok.ensures
 
-pub enter-entered-requires : goal.enter-entered-requires
-enter-entered-requires c = block_few _ c.from_block-blocked.ensures
-
-pub returns : goal.returns
-unfolding new_table
-returns c =
-    let text = block_text _ c.from_block-blocked.ensures c.if-not-blocked.false c.enter-entered.ensures.value c.enter-entered.ensures.cells_after refl in
-    kept _ (omega arith) (printed_as text c.print_entered.ensures)
+pub returns-in-Err : goal.returns-in-Err
+returns-in-Err c =
+    let text = printed_as (ap refused_text c.from.ensures ∙ sym c.in-Err.ensures.0) c.put_refused.ensures in
+    kept _ (omega arith) (subst (λ (o : List ℕ). Printed o 0 (program_text c.args.block.now) c.put_refused.result c.put_refused.new.o) c.in-Err.ensures.1 text)

@@ -5,20 +5,19 @@ use Rattle.desk.proofs.question.fill_for.Goals as goal
 -- `fill_for`: the board that is laid out is the job's; a full box needs none.
 pub has_empty-requires : goal.has_empty-requires
 has_empty-requires c =
-    let both = usable_box _ _ _ _ c.requires.usable c.requires.inside c.wide.ensures.value in
+    let both = usable_box _ _ _ _ c.requires.usable c.requires.inside c.from.ensures in
     record { holds = both.0; within = both.1 }
 
 pub returns-then-not-has_empty : goal.returns-then-not-has_empty
 returns-then-not-has_empty c =
-    let both = box_still c.args.job _ _ _ c.wide.ensures.value c.has_empty.ensures c.if-not-has_empty.true in
-    record { value = both.0; t_after = both.1 }
+    let both = box_still c.args.job.now _ _ _ c.from.ensures c.has_empty.ensures c.if-not-has_empty.true in
+    record { worked = both.0; after = both.1 }
 
 pub fill_box-requires : goal.fill_box-requires
 fill_box-requires c =
-    let both = box_ready _ _ _ _ c.requires.usable c.requires.inside c.requires.bounded c.lay_out.ensures in
-    record { box_ready = both.0; few = both.1 }
+    box_ready _ _ _ _ c.requires.usable c.requires.inside c.requires.bounded c.of-board.ensures
 
 pub returns : goal.returns
 returns c =
-    let both = box_filled _ _ _ _ c.requires.usable.range c.lay_out.ensures c.fill_box.ensures.worked c.fill_box.ensures.after in
-    record { value = both.0; t_after = both.1 }
+    let both = box_filled _ _ _ _ c.requires.usable.range c.of-board.ensures c.fill_box.ensures.worked c.fill_box.ensures.after in
+    record { worked = both.0; after = both.1 }

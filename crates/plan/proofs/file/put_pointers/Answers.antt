@@ -6,4 +6,4 @@ use Rattle.plan.proofs.file.put_pointers.Goals as goal
 -- `put_pointers` meets its contract: three numbers of four bytes, one behind the other.
 pub returns : goal.returns
 returns c =
-    put_three 4 bytes4 bytes4-length _ _ _ _ _ (omega arith) c.put4.ensures c.put4-2.ensures c.put4-3.ensures
+    put_three 4 bytes4 bytes4-length _ _ _ _ _ (omega arith) c.put.ensures c.put-2.ensures c.put-3.ensures

@@ -1,10 +1,36 @@
-use mathlib.Core.Path.{refl}
-use Rattle.program.proofs.Entered.{entered_as}
+use Rattle.std.proofs.Common.{◌≡◌, ◌∙◌, ◌+◌, ap, arith, length-take, get_or-take}
+use Rattle.job.specs.Job.{no_record}
+use Rattle.program.specs.Entry.{begun, entered}
+use Rattle.program.proofs.Entered.{entered_stopped, begun_more, begun_none}
 use Rattle.program.proofs.entry.enter.Goals as goal
 
 -- `enter` meets its contract.
+pub returns-in_err-job : goal.returns-in_err-job
+returns-in_err-job c =
+    let first = begun_none c.args.from.now c.args.cells.now c.from.ensures c.from-2.ensures in
+    let given = c.in_err-job.ensures in
+    let both = entered_stopped _ _ 0 _ _ (omega arith) (ap (λ k. k.refusal) (given.0 ∙ first.0)) (given.1 ∙ first.1) c.from_residual.ensures.1 in
+    record { answer = both.0; cells_after = both.1 }
+
+pub loop-piece-init : goal.loop-piece-init
+loop-piece-init c =
+    let first = begun_none c.args.from.now c.args.cells.now c.from.ensures c.from-2.ensures in
+    (c.in_ok-job.ensures.0 ∙ first.0, c.in_ok-job.ensures.1 ∙ first.1)
+
+pub loop-piece-preserved : goal.loop-piece-preserved
+loop-piece-preserved c =
+    let more = begun_more c.args.from.now c.args.cells.now c.loop-piece.piece-index c.loop-piece.invariant.0 c.loop-piece.invariant.1 (get_or-take c.from-3.result c.args.from.now.pieces c.loop-piece.piece-index no_record (omega (arith, length-take c.from-3.result c.args.from.now.pieces))) in
+    (c.in_ok-job-2.ensures.0 ∙ more.0, c.in_ok-job-2.ensures.1 ∙ more.1)
+
+pub returns-in_err-job-2 : goal.returns-in_err-job-2
+returns-in_err-job-2 c =
+    let more = begun_more c.args.from.now c.args.cells.now c.loop-piece.piece-index c.loop-piece.invariant.0 c.loop-piece.invariant.1 (get_or-take c.from-3.result c.args.from.now.pieces c.loop-piece.piece-index no_record (omega (arith, length-take c.from-3.result c.args.from.now.pieces))) in
+    let given = c.in_err-job-2.ensures in
+    let both = entered_stopped _ _ (c.loop-piece.piece-index + 1) _ _ (omega arith) (ap (λ k. k.refusal) (given.0 ∙ more.0)) (given.1 ∙ more.1) c.from_residual-in_err-job-2.ensures.1 in
+    record { answer = both.0; cells_after = both.1 }
+
 pub returns : goal.returns
+unfolding entered
 returns c =
-    let opened = c.open-start.ensures in
-    let both = entered_as _ _ c.long.ensures c.long-2.ensures opened.0 opened.1 refl c.add_all.ensures.value c.add_all.ensures.cells_after in
-    record { value = both.0; cells_after = both.1 }
+    let all : c.loop-piece.piece-index ≡ c.args.from.now.count = omega (arith, length-take c.from-3.result c.args.from.now.pieces) in
+    record { answer = c.loop-piece.invariant.0 ∙ ap (λ k. (begun c.args.from.now c.args.cells.now k).answer) all; cells_after = c.loop-piece.invariant.1 ∙ ap (λ k. (begun c.args.from.now c.args.cells.now k).cells) all }

@@ -1,8 +1,0 @@
-use mathlib.Core.Path.{refl}
-use Rattle.checker.proofs.Stages.{sum_done}
-use Rattle.checker.proofs.sum_agrees.Goals as goal
-
--- `sum_agrees` meets its contract.
-pub returns : goal.returns
-returns c =
-    sum_done _ c.requires c.note_length-start.ensures refl c.sum_of.ensures c.number4.ensures

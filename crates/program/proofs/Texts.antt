@@ -1,6 +1,5 @@
 -- What is printed for each answer, as the code goes.
 use Prim.Native.Nat.{ℕ, zero, suc, ◌+◌, ◌≤◌}
-use mathlib.Core.Bool.{Bool, true, false}
 use Rattle.std.proofs.Common.{Some, None, Result, Ok, Err, IsErrAnd}
 use Rattle.refusals.specs.declared.Refusal.{Refusal}
 use Rattle.refusals.specs.Refusals.{bad_job, number}

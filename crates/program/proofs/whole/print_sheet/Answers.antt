@@ -1,5 +1,8 @@
 use Rattle.std.proofs.Common.{ℕ, refl, sym, ap, ◌∙◌}
 use Rattle.std.proofs.lemmas.List.{length-replicate}
+use Rattle.refusals.specs.declared.Refusal.{Refusal}
+use Rattle.refusals.specs.Refusals.{number}
+use Rattle.listing.specs.Line.{refused_text}
 use Rattle.refusals.proofs.Numbers.{refused_with}
 use Rattle.printing.proofs.Printed.{writes_as}
 use Rattle.program.specs.Sizes.{plan_room}
@@ -9,7 +12,10 @@ use Rattle.program.proofs.whole.print_sheet.Goals as goal
 
 -- `print_sheet` meets its contract.
 pub returns-in_err-from : goal.returns-in_err-from
-returns-in_err-from c = ?
+returns-in_err-from c =
+    let none = c.in_err-from.ensures in
+    let text = block_none _ (sym c.from_block.ensures ∙ none.ok_part) in
+    text_left _ _ _ c.from_residual.ensures.1 (text ∙ ap (λ (r : Refusal). refused_text (number r)) (sym (refused_with _ none.value)))
 
 pub enter-requires : goal.enter-requires
 enter-requires c = block_few _ (sym c.in_ok-from.ensures.ok_part ∙ c.from_block.ensures)

@@ -9,9 +9,6 @@ returns-then-cell c =
     let both = cell_kept c.args.floor (marked_at c.args.board.now false) _ _ _ _ c.cell.ensures c.if-cell.true in
     record { worked = both.0; after = both.1 }
 
-pub line_value-line-requires : goal.line_value-line-requires
-line_value-line-requires c = around_lines _ _ _ _ c.requires
-
 pub returns : goal.returns
 returns c =
     let both = cell_worked c.args.floor (marked_at c.args.board.now false) _ _ _ _ _

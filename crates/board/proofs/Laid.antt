@@ -1,7 +1,7 @@
 -- What stands on the board of a job.
 use Prim.Native.Nat.{ℕ, ◌-◌, ◌≤◌, ◌<◌}
 use mathlib.Core.HLevel.{is_prop→PathP}
-use mathlib.Core.Path.{◌≡◌, sym, ◌∙◌}
+use mathlib.Core.Path.{◌≡◌, refl, sym, ◌∙◌}
 use mathlib.Core.List.{List, ◌++◌}
 use native.Mathlib.Bridge.{le_prop}
 use native.Mathlib.Omega.{arith}
@@ -15,7 +15,7 @@ use Rattle.std.proofs.lemmas.List.{length-take, get_or-take}
 use Rattle.job.specs.declared.Piece.{Piece as Record}
 use Rattle.job.specs.Job.{no_record}
 use Rattle.board.specs.declared.Board.{Board}
-use Rattle.board.specs.Inner.{entries, count_on, record_at, pieces_board}
+use Rattle.board.specs.Inner.{entries, width_on, height_on, count_on, record_at, pieces_board}
 
 -- Two boards with the same fields are one.
 pub same_board : (b d : Board) → b.width ≡ d.width → b.height ≡ d.height → b.count ≡ d.count → b.pieces ≡ d.pieces → b.across ≡ d.across → b.up ≡ d.up → b ≡ d
@@ -31,7 +31,8 @@ same_board b d width height count pieces across up =
     }
 
 -- What stands at an index of the first n records.
-pub first_record : (n : ℕ) (records : List Record) (k : ℕ) → k < length (take n records) → get_or (take n records) k no_record ≡ get_or records k no_record
+pub first_record : (n : ℕ) (records : List Record) (k : ℕ) → k < length (take n records)
+    → get_or (take n records) k no_record ≡ get_or records k no_record
 first_record n records k h = get_or-take n records k no_record (omega (arith, h, length-take n records))
 
 -- The records on the board are the job's, and none behind them.
@@ -52,6 +53,14 @@ pieces_record job k = ⊎_elim (λ h. past h) (λ h. get_or-append job.pieces re
             ⊎_elim (λ l. get_or-eq_default rest no_record {n = j} (omega (arith, length-replicate {A = Record} (entries - pieces_max) no_record)))
             (λ l. get_or-replicate {A = Record} (entries - pieces_max) j no_record no_record l)
             (le_or_lt (entries - pieces_max) j)
+
+pub pieces_width : (job : Job) → width_on (pieces_board job) ≡ job.width
+unfolding pieces_board
+pieces_width job = refl
+
+pub pieces_height : (job : Job) → height_on (pieces_board job) ≡ job.height
+unfolding pieces_board
+pieces_height job = refl
 
 pub pieces_count : (job : Job) → job.count ≤ pieces_max → count_on (pieces_board job) ≡ job.count
 unfolding pieces_board

@@ -167,8 +167,8 @@ module _ {size : ℕ → ℕ} {n side : ℕ} where
   -- The same as the loop has it: the slice that `led` reads are the steps.
   module _ {next : ℕ} {marks : List Bool} {steps slice : List ℕ} {b : Bool} (few : side ≤ side_max) (p : PassBefore size n side next marks steps)
       (h : next ≤ side) (lent : slice ≡ steps) (search : b ≡ leads (mark_at marks) (step_at slice) (length slice) next) where
-    becomes : {marks' : List Bool} {steps' : List ℕ} (m : ℕ → List Bool) (s : ℕ → List ℕ) → marks' ≡ m next → steps' ≡ s next → PassAt size n side (p.last + 1) (m (p.last + 1)) (s (p.last + 1))
-        → PassBefore size n side (next + 1) marks' steps'
+    becomes : {marks' : List Bool} {steps' : List ℕ} (m : ℕ → List Bool) (s : ℕ → List ℕ) → marks' ≡ m next → steps' ≡ s next
+        → PassAt size n side (p.last + 1) (m (p.last + 1)) (s (p.last + 1)) → PassBefore size n side (next + 1) marks' steps'
     becomes m s f g t = rw (f, g) (record { last = next; before = refl; pass = subst (λ (k : ℕ). PassAt size n side k (m k) (s k)) (sym p.before) t })
 
     below : p.last < side

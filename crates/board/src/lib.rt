@@ -35,7 +35,7 @@ impl Board {
     ghost use Rattle.std.specs.Prelude.{◌≡◌, ◌<◌};
     ghost use Rattle.cutting.specs.Limits.{side_max, pieces_max};
     ghost use Rattle.job.specs.Range.{JobInRange};
-    ghost use Rattle.board.specs.Inner.{entries, width_on, height_on, count_on, width_at, height_at, value_at, marked_at, pieces_board, board_of};
+    ghost use Rattle.board.specs.Inner.{entries, width_on, height_on, count_on, width_at, height_at, value_at, marked_at, pieces_board, with_points, board_of};
 
     // The job's sides and pieces, without marks: all that reading a plan file needs.
     pub fn of_pieces(job: &Job) -> Board
@@ -60,12 +60,20 @@ impl Board {
         ensures { result ≡ board_of job.now }
     {
         let mut board = Board::of_pieces(job);
-        let pieces = &board.pieces[..board.count()];
-        let across = marks_of(pieces, |piece| piece.width, board.width());
-        let up = marks_of(pieces, |piece| piece.height, board.height());
-        board.across = across;
-        board.up = up;
+        board.mark();
         board
+    }
+
+    // Widths and heights are one code, which gets the measure as a closure.
+    fn mark(&mut self)
+        requires { (width_on self.old ≤ side_max) × (height_on self.old ≤ side_max) }
+        ensures { self.new ≡ with_points self.old }
+    {
+        let pieces = &self.pieces[..self.count()];
+        let across = marks_of(pieces, |piece| piece.width, self.width());
+        let up = marks_of(pieces, |piece| piece.height, self.height());
+        self.across = across;
+        self.up = up;
     }
 
     pub fn width(&self) -> usize

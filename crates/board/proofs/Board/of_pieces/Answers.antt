@@ -13,4 +13,5 @@ use Rattle.board.proofs.Board.of_pieces.Goals as goal
 pub returns : goal.returns
 unfolding pieces_board
 returns c =
-    same_board _ _ refl refl (omega (arith, c.requires)) (λ i. c.copy_from_slice.ensures.after i ++ replicate (entries - pieces_max) (is_no_record c.default-pieces.ensures i)) refl refl
+    same_board _ _ refl refl (omega (arith, c.requires))
+    (λ i. c.copy_from_slice.ensures.after i ++ replicate (entries - pieces_max) (is_no_record c.default-pieces.ensures i)) refl refl

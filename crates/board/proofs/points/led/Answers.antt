@@ -12,9 +12,10 @@ returns-then-c-step c =
 
 pub returns-then-marks-c : goal.returns-then-marks-c
 returns-then-marks-c c =
+    let read = c.from-step.ensures in
     sym
     ((leads_says _ _ _ _).found
-    (record { index = c.loop-step.step-index; among = omega arith; tried = omega (arith, c.from-step.ensures); leaves = rw (← c.from-step.ensures) c.if-marks-c.true }))
+    (record { index = c.loop-step.step-index; among = omega arith; tried = omega (arith, read); leaves = rw (← read) c.if-marks-c.true }))
 
 pub returns : goal.returns
 returns c =

@@ -22,7 +22,8 @@ loop-last-preserved g c =
           let grown = w.steps-is ∙ w.push.ensures in
           (omega arith, ascending_more c.loop-last.invariant.1 grown, λ of gives. (further of gives).size w.if-led.false w.if-marks-last.true w.marks-is grown)
       | else-led+else-marks-last w ↦
-          (omega arith, ascending_same c.loop-last.invariant.1 w.steps-is, λ of gives. (further of gives).none w.if-led.false w.if-marks-last.false w.marks-is w.steps-is)
+          let none = w.if-marks-last.false in
+          (omega arith, ascending_same c.loop-last.invariant.1 w.steps-is, λ of gives. (further of gives).none w.if-led.false none w.marks-is w.steps-is)
     ]
 
 pub returns : goal.returns

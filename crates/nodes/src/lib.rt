@@ -14,6 +14,7 @@ use board::line::{crossed, part_height, part_width, rest};
 use fields::Field;
 use fields::format::NODE_LENGTH;
 use rule::by_letter;
+use std::ops::AddAssign;
 
 mod rule;
 
@@ -54,11 +55,12 @@ fn area(width: usize, height: usize) -> u32
     (width * height) as u32
 }
 
-impl Tally {
-    fn add(&mut self, leaf: Tally)
-        requires { RoomFor self.old leaf }
-        ensures { self.new ≡ tally_both self.old leaf }
-    {
+impl AddAssign for Tally {
+    ghost can_add_assign = { RoomFor };
+
+    ghost add_assign_gives = { λ before leaf after. after ≡ tally_both before leaf };
+
+    fn add_assign(&mut self, leaf: Tally) {
         self.value += leaf.value;
         self.pieces += leaf.pieces;
         self.scrap += leaf.scrap;
@@ -73,7 +75,7 @@ impl Reading {
         ensures { self.new ≡ behind_leaf self.old leaf }
     {
         self.at += NODE_LENGTH;
-        self.leaves.add(leaf);
+        self.leaves += leaf;
     }
 }
 

@@ -1,7 +1,7 @@
 -- What stands on the board of a job.
 use Prim.Native.Nat.{ℕ, ◌-◌, ◌≤◌, ◌<◌}
 use mathlib.Core.HLevel.{is_prop→PathP}
-use mathlib.Core.Path.{◌≡◌, refl, sym, ap, ◌∙◌}
+use mathlib.Core.Path.{◌≡◌, refl, sym, ◌∙◌}
 use mathlib.Core.List.{List, ◌++◌}
 use native.Mathlib.Bridge.{le_prop}
 use native.Mathlib.Omega.{arith}
@@ -29,6 +29,11 @@ same_board b d width height count pieces across up =
       up = up i;
       few = is_prop→PathP (λ j. count j ≤ entries) (λ j. le_prop) b.few d.few i;
     }
+
+-- What stands at an index of the first n records.
+pub first_record : (n : ℕ) (records : List Record) (k : ℕ) → k < length (take n records)
+    → get_or (take n records) k no_record ≡ get_or records k no_record
+first_record n records k h = get_or-take n records k no_record (omega (arith, h, length-take n records))
 
 -- The records on the board are the job's, and none behind them.
 pub pieces_record : (job : Job) (k : ℕ) → record_at (pieces_board job) k ≡ get_or job.pieces k no_record
@@ -60,11 +65,3 @@ pieces_height job = refl
 pub pieces_count : (job : Job) → job.count ≤ pieces_max → count_on (pieces_board job) ≡ job.count
 unfolding pieces_board
 pieces_count job few = omega (arith, few)
-
--- The job's first records stand on its board.
-pub job_record : (job : Job) (k : ℕ) {first : List Record} → first ≡ take job.count job.pieces → k < length first
-    → get_or first k no_record ≡ record_at (pieces_board job) k
-job_record job k {first} e h =
-    ap (λ (l : List Record). get_or l k no_record) e
-    ∙ (get_or-take job.count job.pieces k no_record (omega (arith, h, ap (λ (l : List Record). length l) e, length-take job.count job.pieces))
-    ∙ sym (pieces_record job k))

@@ -35,30 +35,12 @@ impl Board {
     ghost use Rattle.std.specs.Prelude.{◌≡◌, ◌<◌};
     ghost use Rattle.cutting.specs.Limits.{side_max, pieces_max};
     ghost use Rattle.job.specs.Range.{JobInRange};
-    ghost use Rattle.board.specs.Inner.{entries, width_on, height_on, count_on, width_at, height_at, value_at, marked_at, pieces_board, board_of};
+    ghost use Rattle.board.specs.Inner.{entries, width_on, height_on, count_on, width_at, height_at, value_at, marked_at, pieces_board, with_points, board_of};
 
     // The job's sides and pieces, without marks: all that reading a plan file needs.
     pub fn of_pieces(job: &Job) -> Board
         requires { job.now.count ≤ pieces_max }
         ensures { result ≡ pieces_board job.now }
-    {
-        let none = [false; MARKS];
-        Board::with_marks(job, &none, &none)
-    }
-
-    // The whole board of a job: its pieces, and the marks of P from their widths and of Q from their heights.
-    pub fn of(job: &Job) -> Board
-        requires { JobInRange job.now }
-        ensures { result ≡ board_of job.now }
-    {
-        let across = marks_of(job.pieces(), |piece| piece.width, usize::from(job.width));
-        let up = marks_of(job.pieces(), |piece| piece.height, usize::from(job.height));
-        Board::with_marks(job, &across, &up)
-    }
-
-    fn with_marks(job: &Job, across: &Marks, up: &Marks) -> Board
-        requires { job.now.count ≤ pieces_max }
-        ensures { result ≡ record (pieces_board job.now) { across = across.now; up = up.now } }
     {
         let mut pieces = [Piece::default(); ENTRIES];
         pieces[..job.pieces.len()].copy_from_slice(&job.pieces);
@@ -67,9 +49,31 @@ impl Board {
             height: job.height,
             count: job.count,
             pieces,
-            across: *across,
-            up: *up,
+            across: [false; MARKS],
+            up: [false; MARKS],
         }
+    }
+
+    // The whole board of a job: its pieces, and the marks of P from their widths and of Q from their heights.
+    pub fn of(job: &Job) -> Board
+        requires { JobInRange job.now }
+        ensures { result ≡ board_of job.now }
+    {
+        let mut board = Board::of_pieces(job);
+        board.mark();
+        board
+    }
+
+    // Widths and heights are one code, which gets the measure as a closure.
+    fn mark(&mut self)
+        requires { (width_on self.old ≤ side_max) × (height_on self.old ≤ side_max) }
+        ensures { self.new ≡ with_points self.old }
+    {
+        let pieces = &self.pieces[..self.count()];
+        let across = marks_of(pieces, |piece| piece.width, self.width());
+        let up = marks_of(pieces, |piece| piece.height, self.height());
+        self.across = across;
+        self.up = up;
     }
 
     pub fn width(&self) -> usize

@@ -6,8 +6,11 @@ use mathlib.Core.Path.{◌≡◌, refl, sym, ap, ap₂, ◌∙◌, subst}
 use native.Mathlib.Omega.{arith}
 use native.Mathlib.Decide.{ℕ_discrete}
 use lib.Dec.{leb, ltb}
-use lib.ListN.{length, get_or, set, replicate}
+use lib.ListN.{length, get_or, set, replicate, get_or-eq_default}
 use lib.Seq.{get_or-set_same, get_or-set_other}
+use mathlib.Core.Logic.{⊎_elim}
+use Rattle.std.proofs.lemmas.List.{get_or-replicate, length-replicate}
+use Rattle.laws.proofs.Order.{le_or_lt}
 use Rattle.laws.specs.Inner.{Says}
 use Rattle.laws.proofs.Says.{says_and, says_le, says_lt, says_iff, says_same, says_no, says_false}
 use Rattle.cutting.specs.Piece.{Fits, Inside}
@@ -165,9 +168,4 @@ column_fits a t from x w u d s h k p l e f =
 
 -- A floor of zeros, before anything is laid.
 pub zeros : (from x n : ℕ) → Columns from x (λ u. 0) (replicate n 0)
-zeros from x n = record { at = λ u a b. nought n u }
-  where
-    nought : (n u : ℕ) → ◌≡◌ {A = ℕ} (get_or (replicate n 0) u 0) 0
-    nought zero u = refl
-    nought (suc n) zero = refl
-    nought (suc n) (suc u) = nought n u
+zeros from x n = record { at = λ u a b. ⊎_elim (λ h. get_or-eq_default (replicate n 0) 0 (omega (arith, length-replicate {A = ℕ}))) (λ h. get_or-replicate n u 0 0 h) (le_or_lt n u) }

@@ -1,6 +1,6 @@
 -- Rule 10.2 and rules 10.5 to 10.7, over every history of calls whose answers keep their promises.
+use Rattle.std.specs.Prelude.{Some}
 use Prim.Native.Nat.{ℕ}
-use mathlib.Core.Bool.{true}
 use mathlib.Core.List.{List}
 use mathlib.Core.Logic.{◌⊎◌, inl, inr, ⊎_elim, ◌↔◌}
 use mathlib.Core.Path.{◌≡◌, refl, sym, ◌∙◌, subst}
@@ -14,7 +14,7 @@ use Rattle.laws.proofs.Refusal.{stopped, granted_before}
 use Rattle.job.specs.declared.Job.{Job}
 use Rattle.job.specs.Block.{block_of, job_in, BlockShape}
 use Rattle.job.specs.Inner.{from_block}
-use Rattle.job.proofs.Blocks.{from_block_yes, shape_says}
+use Rattle.job.proofs.Blocks.{from_block_yes}
 use Rattle.refusals.specs.Refusals.{not_inside, alien_table}
 use Rattle.desk.specs.Refusals.{ask_refusals, AskRefusal}
 use Rattle.khonvertseg.specs.declared.KhonAsked.{KhonAsked}
@@ -62,10 +62,10 @@ pub history_block : {job : Job} {t : List ℕ} → History job t → BlockShape 
 history_block h = kept_block (history_kept h)
 
 -- The same of what the code reads.
-pub history_from_block : {job : Job} {t : List ℕ} → History job t → from_block (block_of job) ≡ record { ok = true; job = job }
+pub history_from_block : {job : Job} {t : List ℕ} → History job t → from_block (block_of job) ≡ Some job
 history_from_block {job} h =
     let own = history_block h in
-    sym (from_block_yes (block_of job) (sym ((shape_says (block_of job)).found own.0)) refl (sym own.1))
+    sym (from_block_yes (block_of job) own.0 (sym own.1))
 
 -- Two equivalences, one after the other.
 both : {A B C E : Type 0} → A ↔ (B × E) → B ↔ C → A ↔ (C × E)

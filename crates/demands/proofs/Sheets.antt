@@ -11,7 +11,7 @@ use Rattle.laws.specs.Below.{sum_below}
 use Rattle.laws.specs.Inner.{number_given, all_below, any_below, best_below, first_below, first_number, deep, to_depth}
 use Rattle.laws.specs.ByIndex.{by_index}
 use Rattle.cutting.specs.Change.{added, corrected, removed}
-use Rattle.board.specs.Inner.{marks_of, mark_row, is_point, reaches, reaches_up_to, some_makes, makes, rows_on, entries_of, with_sides, pieces_board, with_points, board_of}
+use Rattle.board.specs.Inner.{marks_of, mark_row, is_point, reaches, reaches_up_to, some_makes, makes, rows_on, pieces_board, with_points, board_of}
 use Rattle.fill.specs.Inner.{worth_of, fitting_value, line_value, line_at, final, filled}
 use Rattle.cells.specs.Box.{count_in_box, count_in_row, is_empty}
 use Rattle.cells.specs.Inner.{any_in_box, any_in_row, exceeds, too_much, redrawn, fits, emptied, emptied_where}
@@ -242,7 +242,7 @@ computed s c =
         cells = f.1 ∙ sym (given (emptied s.width s.height 1 1 t) t refl z)
 
 computes : Each Computes sheets
-unfolding run added_job added_cells corrected_job corrected_cells asked_cells asked add_refused correct_refused remove_refused ask_refused add_refusals correct_refusals remove_refusals ask_refusals add_tests correct_tests remove_tests ask_tests number_given accepted job_in_range pieces_in_range piece_in_range all_below with_added with_corrected job_of zero_job pieces_of added corrected by_index emptied_size emptied emptied_where redrawn fits cell_of place record_of_piece filled_for filled final deep to_depth worth_of fitting_value line_value line_at job_rows rows_on board_of with_points pieces_board with_sides entries_of put marks_of mark_row is_point reaches reaches_up_to some_makes makes any_below best_below sum_below count_in_box count_in_row is_empty any_in_box any_in_row exceeds too_much plan_refused plan_refusals plan_tests plan_bytes summed body pointers block bytes_of_head bytes_of_pieces bytes_of_piece bytes2 bytes4 encode node running_sum earning piece_at first_below first_number two_cells suits first_piece adds_to least_line trimmed_to cut_out strikes ruled step_in tree_by traced traces_by traces checked framed sum_agrees agreed nodes_read valued leaves_of judged_job summed_bytes block_bytes number2_of number4_of piece_from job_in block_shape from_block is_piece is_inside letter_node node_at with_first then_read both_parts part_by part_at best_value best_by exact_value exactly pieces_after removed
+unfolding run added_job added_cells corrected_job corrected_cells asked_cells asked add_refused correct_refused remove_refused ask_refused add_refusals correct_refusals remove_refusals ask_refusals add_tests correct_tests remove_tests ask_tests number_given accepted job_in_range pieces_in_range piece_in_range all_below with_added with_corrected job_of zero_job pieces_of added corrected by_index emptied_size emptied emptied_where redrawn fits cell_of place record_of_piece filled_for filled final deep to_depth worth_of fitting_value line_value line_at job_rows rows_on board_of with_points pieces_board put marks_of mark_row is_point reaches reaches_up_to some_makes makes any_below best_below sum_below count_in_box count_in_row is_empty any_in_box any_in_row exceeds too_much plan_refused plan_refusals plan_tests plan_bytes summed body pointers block bytes_of_head bytes_of_pieces bytes_of_piece bytes2 bytes4 encode node running_sum earning piece_at first_below first_number two_cells suits first_piece adds_to least_line trimmed_to cut_out strikes ruled step_in tree_by traced traces_by traces checked framed sum_agrees agreed nodes_read valued leaves_of judged_job summed_bytes block_bytes number2_of number4_of piece_from job_in block_shape from_block is_piece is_inside letter_node node_at with_first then_read both_parts part_by part_at best_value best_by exact_value exactly pieces_after removed
 computes =
     let k1 = each K1 refl refl (omega arith) (omega arith) in
     let k2 = each K2 refl refl (omega arith) (omega arith) in

@@ -1,3 +1,2 @@
 -- Laws of the face.
-pub mod Block
 pub mod Unique

@@ -131,24 +131,28 @@ impl From<Result<Accepted, Refusal>> for KhonChecked {
     }
 }
 
+#[tactic(auto, using(desk::proofs::Words::open_exactly, job::proofs::Pieces::is_zero_job))]
 pub fn khon_open(width: u32, height: u32, cells: &mut [u32]) -> KhonChanged
     ensures { KhonOpens width height cells.old result cells.new }
 {
     KhonChanged::of(change::open(width, height, cells), &Job::default())
 }
 
+#[tactic(auto, using(desk::proofs::Words::add_exactly))]
 pub fn khon_add(job: Job, cells: &mut [u32], piece: Piece) -> KhonChanged
     ensures { KhonAdds job cells.old piece result cells.new }
 {
     KhonChanged::of(change::add(job, cells, piece), &job)
 }
 
+#[tactic(auto, using(desk::proofs::Words::correct_exactly))]
 pub fn khon_correct(job: Job, cells: &mut [u32], number: u32, piece: Piece) -> KhonChanged
     ensures { KhonCorrects job cells.old number piece result cells.new }
 {
     KhonChanged::of(change::correct(job, cells, number, piece), &job)
 }
 
+#[tactic(auto, using(desk::proofs::Words::remove_exactly))]
 pub fn khon_remove(job: Job, cells: &mut [u32], number: u32) -> KhonChanged
     ensures { KhonRemoves job cells.old number result cells.new }
 {
@@ -187,6 +191,7 @@ pub fn khon_plan(block: &[u8], cells: &[u32], x: u32, y: u32, file: &mut [u8]) -
     KhonPlanned::from(plan_block(block, cells, x, y, file))
 }
 
+#[tactic(auto, using(checker::proofs::Given::given_exactly))]
 pub fn khon_check(file: &[u8]) -> KhonChecked
     ensures { KhonChecks file.now result }
 {

@@ -1,11 +1,14 @@
+use native.Mathlib.Omega.{arith}
+use Rattle.job.proofs.Blocks.{from_block_none, from_block_some}
 use Rattle.plan.proofs.Plans.{plan_exactly}
-use Rattle.khonvertseg.proofs.Block.{block_refused, block_given}
+use Rattle.khonvertseg.specs.Calls.{WithBlock}
 use Rattle.khonvertseg.proofs.plan_block.Goals as goal
 
 -- `plan_block` meets its contract.
-pub returns-then-not-blocked : goal.returns-then-not-blocked
-returns-then-not-blocked c = block_refused _ c.from_block-blocked.ensures c.if-not-blocked.true
+pub returns-in_err-ok_or : goal.returns-in_err-ok_or
+returns-in_err-ok_or c = grind (arith, from_block_none, WithBlock.shapeless)
 
 pub returns : goal.returns
 returns c =
-    block_given _ c.from_block-blocked.ensures c.if-not-blocked.false ((plan_exactly _ _ _ _ _).0 c.plan.ensures)
+    let plans = (plan_exactly _ _ _ _ _).0 c.plan.ensures in
+    grind (arith, plans, from_block_some, WithBlock.shaped)

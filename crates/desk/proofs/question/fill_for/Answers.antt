@@ -15,9 +15,9 @@ returns-then-not-has_empty c =
 
 pub fill_box-requires : goal.fill_box-requires
 fill_box-requires c =
-    box_ready _ _ _ _ c.requires.usable c.requires.inside c.requires.bounded c.of-board.ensures
+    box_ready _ _ _ _ c.requires.usable c.requires.inside c.requires.bounded c.of.ensures
 
 pub returns : goal.returns
 returns c =
-    let both = box_filled _ _ _ _ c.requires.usable.range c.of-board.ensures c.fill_box.ensures.worked c.fill_box.ensures.after in
+    let both = box_filled _ _ _ _ c.requires.usable.range c.of.ensures c.fill_box.ensures.worked c.fill_box.ensures.after in
     record { worked = both.0; after = both.1 }

@@ -36,11 +36,11 @@ fn fill_for(job: &Job, t: &mut [u32], x: usize, y: usize) -> u32
 
 // The best value of x by y, and the number of cells that had to be worked out for it.
 #[tactic(auto, using(crate::proofs::Granted::ask_granted, crate::proofs::Granted::cell_there))]
-pub fn ask(job: Job, t: &mut [u32], x: u32, y: u32) -> Result<Answer, Refusal>
-    ensures { AskPromise job t.old x y (asked_from result) t.new }
+pub fn ask(job: &Job, t: &mut [u32], x: u32, y: u32) -> Result<Answer, Refusal>
+    ensures { AskPromise job.now t.old x y (asked_from result) t.new }
 {
-    refusal::of_ask(&job, t, x, y)?;
-    let worked = fill_for(&job, t, x as usize, y as usize);
+    refusal::of_ask(job, t, x, y)?;
+    let worked = fill_for(job, t, x as usize, y as usize);
     let value = cells::cell(t, usize::from(job.width), x as usize, y as usize);
     Ok(Answer { value, worked })
 }

@@ -24,16 +24,16 @@ pub struct Written {
 }
 
 // Reads the table and writes the plan file of x by y at the start of o.
-pub fn plan(job: Job, t: &[u32], x: u32, y: u32, o: &mut [u8]) -> Result<Written, Refusal>
-    ensures { PlanPromise job t.now x y o.old (planned_from result) o.new }
+pub fn plan(job: &Job, t: &[u32], x: u32, y: u32, o: &mut [u8]) -> Result<Written, Refusal>
+    ensures { PlanPromise job.now t.now x y o.old (planned_from result) o.new }
 {
     refusal::of_box(job, t, x, y)?;
-    let board = Board::of(&job);
+    let board = Board::of(job);
     let table = Table {
         board: &board,
         cells: t,
     };
     let nodes = measure(&table, x as usize, y as usize, Wanted::Free).ok_or(Refusal::AlienTable)?;
     refusal::of_room(job.count, nodes, o.len())?;
-    Ok(file::write_file(&job, &table, x, y, o))
+    Ok(file::write_file(job, &table, x, y, o))
 }

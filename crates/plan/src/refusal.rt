@@ -13,10 +13,10 @@ use job::Job;
 use job::block::block_length;
 use refusals::Refusal;
 
-pub fn of_box(job: Job, t: &[u32], x: u32, y: u32) -> Result<(), Refusal>
-    ensures { refused result ≡ box_refused job t.now x y }
+pub fn of_box(job: &Job, t: &[u32], x: u32, y: u32) -> Result<(), Refusal>
+    ensures { refused result ≡ box_refused job.now t.now x y }
 {
-    of_job(&job, t)?;
+    of_job(job, t)?;
     if !inside(x, y, job.width, job.height) {
         return Err(Refusal::NotInside);
     }

@@ -53,9 +53,9 @@ pub fn print_sheet(block: &[u8], text: &mut Text) -> Result<(), Refusal>
     let job = enter(&from, &mut cells)?;
     let width = u32::from(job.width);
     let height = u32::from(job.height);
-    let answer = question::ask(job, &mut cells, width, height)?;
+    let answer = question::ask(&job, &mut cells, width, height)?;
     let mut file = [0; PLAN];
-    plan::plan(job, &cells, width, height, &mut file)?;
+    plan::plan(&job, &cells, width, height, &mut file)?;
     print_plan(&job, &file, answer, text);
     Ok(())
 }

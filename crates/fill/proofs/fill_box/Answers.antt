@@ -24,4 +24,3 @@ loop-w-preserved c =
       box_more _ _ _ _ _ _ ready _ _ (omega arith) (omega arith) inv.0 c.fill_row-worked.ensures.after,
       box_count _ _ _ _ _ _ ready _ _ (omega arith) (omega arith) inv.0 inv.1 c.fill_row-worked.ensures.worked,
     )
-

@@ -1,6 +1,6 @@
 use mathlib.Core.Bool.{false}
 use Rattle.board.specs.Inner.{marked_at}
-use Rattle.fill.proofs.Rounds.{around_lines, cell_kept, cell_worked}
+use Rattle.fill.proofs.Rounds.{cell_kept, cell_worked}
 use Rattle.fill.proofs.fill_cell.Goals as goal
 
 -- `fill_cell`: a filled cell is left, an empty one gets the larger of its floor and the lines across.

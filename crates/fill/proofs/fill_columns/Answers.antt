@@ -1,6 +1,6 @@
 use Rattle.std.proofs.Common.{◌+◌, ◌-◌, ◌≡◌, arith}
 use Rattle.board.specs.Inner.{rows_on}
-use Rattle.fill.proofs.Rounds.{entered, entered_count, lines_up, row_around, row_more, row_count, row_within}
+use Rattle.fill.proofs.Rounds.{entered, entered_count, row_around, row_more, row_count, row_within}
 use Rattle.fill.proofs.fill_columns.Goals as goal
 
 pub loop-u-init : goal.loop-u-init
@@ -28,4 +28,3 @@ loop-u-preserved c =
       row_more _ _ _ _ _ _ ready _ _ (omega arith) (omega arith) inv.0 floor c.fill_cell-worked.ensures.after,
       row_count _ _ _ _ _ _ ready _ _ (omega arith) (omega arith) inv.0 inv.1 c.fill_cell-worked.ensures.worked,
     )
-

@@ -15,14 +15,9 @@ place_below {x} {y} {a} {b} i =
     let h : suc (y - 1) * a ≤ b * a = mul-le-mul_right a (omega arith) in
     omega (arith, suc-mul (y - 1) a, mul_comm a b)
 
--- Nothing within the largest sheet overflows: an area, and the rows below a cell.
+-- An area within the largest sheet.
 pub area_fits : {u w : ℕ} → u ≤ side_max → w ≤ side_max → u * w ≤ side_max * side_max
 area_fits h k = mul-le-mul h k
-
-pub rows_fit : (a y : ℕ) → a ≤ side_max → y ≤ side_max → (y - 1) * a ≤ side_max * side_max
-rows_fit a y h k =
-    let low : y - 1 ≤ side_max = omega arith in
-    area_fits low h
 
 -- The rows above a sheet a by y lie beyond it.
 pub place_above : {u w a b : ℕ} (y : ℕ) → Inside u w a b → y < w → a * y ≤ place a u w

@@ -9,6 +9,7 @@ use lib.ListN.{length, get_or, set, get_or-eq_default}
 use lib.Seq.{get_or-set_same, get_or-set_other}
 use lib.Dec.{ltb}
 use borrow.Author.Tests.{lt-ltb, le-ltb}
+use Rattle.std.proofs.lemmas.Grind.{get_or_default_zero}
 use Rattle.std.proofs.lemmas.List.Edits.{get_or-between}
 use Rattle.std.specs.List.{between}
 use Rattle.laws.proofs.Order.{le_or_lt}
@@ -94,12 +95,9 @@ redrawn_again a b f g t room =
 -- What the code reads at the place of a cell is the cell: within the row no default counts.
 pub read_cell : {x y a b : ℕ} (t : List ℕ) → a * b ≤ length t → Inside x y a b → (k : ℕ) → k ≡ place a x y → get_or t k 0 ≡ cell_of a t x y
 unfolding cell_of
-read_cell {x} {y} {a} t room i k e = any_default t k (omega (arith, place_below i)) ∙ ap (λ n. get_or t n empty) e
-  where
-    any_default : (t : List ℕ) (k : ℕ) → k < length t → get_or t k 0 ≡ get_or t k empty
-    any_default [] k h = absurd (omega arith)
-    any_default (v ∷ t) zero h = refl
-    any_default (v ∷ t) (suc k) h = any_default t k (omega arith)
+read_cell {x} {y} {a} t room i k e =
+    let here : k < length t = omega (arith, place_below i) in
+    sym (get_or_default_zero t k empty here) ∙ ap (λ n. get_or t n empty) e
 
 -- The cells of a row stand beside one another.
 pub row_cell : {a w : ℕ} (t : List ℕ) (x k : ℕ) {first : ℕ} → Holds a w t → x ≤ a → first ≡ place a 1 w → k < x

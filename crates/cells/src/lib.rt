@@ -1,4 +1,5 @@
 // The row of cells of a sheet. Where a cell lies in the row is known here alone; everyone above says (x, y).
+// The row t and its width a stay two parameters: a struct of them would be two structs, since reading lends the row as & and storing as &mut.
 #![tactic(auto)]
 
 ghost use Rattle.std.specs.Prelude.{ℕ, ◌+◌, ◌*◌, Bool, ◌≤◌, ◌<◌, ◌≡◌, length, set, slice_index};
@@ -81,7 +82,7 @@ pub fn has_empty(t: &[u32], a: usize, x: usize, y: usize) -> bool
     requires within { x ≤ a }
     ensures { result ≡ any_in_box x y (is_empty a t.now) }
 {
-    box_has(t, a, x, y, |value, _most| value == EMPTY)
+    box_has(t, a, x, y, |value, _| value == EMPTY)
 }
 
 // Does a cell of the box x by y hold more than its area can earn?
@@ -99,7 +100,7 @@ pub fn row_has_empty(t: &[u32], a: usize, x: usize, w: usize) -> bool
     requires within { x ≤ a }
     ensures { result ≡ any_in_row x w (is_empty a t.now) }
 {
-    row_has(t, a, x, w, &|value, _most| value == EMPTY)
+    row_has(t, a, x, w, &|value, _| value == EMPTY)
 }
 
 // Is there a sought cell in the box x by y? `sought` is asked about a cell's number and the most that it may earn.

@@ -1,16 +1,9 @@
-use Rattle.std.proofs.Common.{ℕ, ◌+◌, ◌*◌, ◌≡◌, sym, ap, ◌∙◌, arith}
-use Rattle.cells.proofs.Places.{area_fits}
+use Rattle.std.proofs.Common.{ℕ, ◌+◌, ◌*◌, sym, ap, ◌∙◌, arith}
 use Rattle.cells.proofs.Box.{any_in_row_none, column_more, row_asked}
 use Rattle.cells.proofs.row_has.Goals as goal
 
 pub loop-value-init : goal.loop-value-init
 loop-value-init g c = (λ test answers. sym (any_in_row_none _ _), omega arith)
-
-pub overflow_add-most : goal.overflow_add-most
-overflow_add-most g c =
-    let within = area_fits {u = c.loop-value.value-index + 1} {w = c.args.w} (omega (arith, c.requires)) (omega (arith, c.requires)) in
-    let column = ap (λ (n : ℕ). c.args.w * n) c.from.ensures in
-    omega (arith, within, column, column_more _ c.args.w c.loop-value.invariant.1)
 
 pub loop-value-preserved : goal.loop-value-preserved
 loop-value-preserved g c =
@@ -19,8 +12,3 @@ loop-value-preserved g c =
       λ test answers. row_asked test _ _ _ _ (c.loop-value.invariant.0 test answers) (answers _ _ _ c.sought-found.ensures) cell most,
       most,
     )
-
-pub returns : goal.returns
-returns g c =
-    let end : c.loop-value.value-index ≡ c.args.x = omega arith in
-    λ test answers. rw (← end) (c.loop-value.invariant.0 test answers)

@@ -37,7 +37,8 @@ module _ (rows : Rows) (cell : ℕ → ℕ → ℕ) where
       → tree_by (traced rows cell) p step ≡ tree → IsTraced p tree
   own p e f g = (traces_own rows cell p e ∙ f, traced_own rows cell p e ∙ g)
 
-  line_own : (p : WantedPart) {tall : Bool} {c : ℕ} {wanted : Wanted} {s t : Tree} → step_in rows cell p ≡ Some (Step.Line tall c wanted) → IsTraced (near_wanted tall c wanted p) s
+  line_own : (p : WantedPart) {tall : Bool} {c : ℕ} {wanted : Wanted} {s t : Tree} → step_in rows cell p ≡ Some (Step.Line c wanted tall)
+      → IsTraced (near_wanted tall c wanted p) s
       → IsTraced (far_wanted tall c wanted p) t → IsTraced p (Tree.line tall c s t)
   unfolding traces_by tree_by
   line_own p {tall} {c} e n f = own p e (ap₂ ◌&&◌ n.0 f.0) (ap₂ (Tree.line tall c) n.1 f.1)
@@ -62,7 +63,7 @@ module _ (rows : Rows) (cell : ℕ → ℕ → ℕ) where
     unfolding step_in
     wanted_step x y = refl
 
-    trim_cuts : (tall : Bool) {size side : ℕ} (after : Step) → 1 ≤ size → size < side → trimmed_to tall size side piece after ≡ Step.Line tall size piece
+    trim_cuts : (tall : Bool) {size side : ℕ} (after : Step) → 1 ≤ size → size < side → trimmed_to tall size side piece after ≡ Step.Line size piece tall
     unfolding trimmed_to
     trim_cuts tall {size} {side} after h l = chosen (says_and (says_le 1 size) (says_lt size side)) _ _ (h, l)
 
@@ -95,16 +96,18 @@ module _ (rows : Rows) (cell : ℕ → ℕ → ℕ) where
   same_tree x y v w None = refl
   same_tree x y v w (Some Step.Scrap) = refl
   same_tree x y v w (Some (Step.Piece k)) = refl
-  same_tree x y v w (Some (Step.Line tall c _)) = refl
+  same_tree x y v w (Some (Step.Line c _ tall)) = refl
 
-  same_test : (x y : ℕ) (v w : Wanted) (step : Option Step) → traces_by (traces rows cell) (part_of x y v) step ≡ traces_by (traces rows cell) (part_of x y w) step
+  same_test : (x y : ℕ) (v w : Wanted) (step : Option Step)
+      → traces_by (traces rows cell) (part_of x y v) step ≡ traces_by (traces rows cell) (part_of x y w) step
   unfolding traces_by
   same_test x y v w None = refl
   same_test x y v w (Some Step.Scrap) = refl
   same_test x y v w (Some (Step.Piece k)) = refl
-  same_test x y v w (Some (Step.Line tall c _)) = refl
+  same_test x y v w (Some (Step.Line c _ tall)) = refl
 
-  wanted_traced : (x y : ℕ) (v w : Wanted) {step : Option Step} {tree : Tree} → step_in rows cell (part_of x y v) ≡ step → step_in rows cell (part_of x y w) ≡ step
+  wanted_traced : (x y : ℕ) (v w : Wanted) {step : Option Step} {tree : Tree} → step_in rows cell (part_of x y v) ≡ step
+      → step_in rows cell (part_of x y w) ≡ step
       → IsTraced (part_of x y w) tree → IsTraced (part_of x y v) tree
   wanted_traced x y v w {step} e f d =
       own (part_of x y v) e (same_test x y v w step ∙ (sym (traces_own rows cell (part_of x y w) f) ∙ d.0))
@@ -118,7 +121,8 @@ module _ {pieces : List Piece} {rows : Rows} {a b : ℕ} (hold : Hold rows piece
   free_step {x} {y} i s = strikes_only hold cell x y i s
 
   -- Rule 6.5: the piece is cut out as it says.
-  fitting_traced : {x y k : ℕ} (i : Inside x y a b) {s t : Tree} → step_in rows cell (whole x y) ≡ Some (cut_out rows x y k) → (f : Fitting pieces a b cell x y k)
+  fitting_traced : {x y k : ℕ} (i : Inside x y a b) {s t : Tree} → step_in rows cell (whole x y) ≡ Some (cut_out rows x y k)
+      → (f : Fitting pieces a b cell x y k)
       → Trimmed true f.height y (Tree.piece_p k) s → Trimmed false f.width x s t → IsTraced rows cell (whole x y) t
   fitting_traced {x} {y} {k} i {s} {t} e f up across =
       let n = f.numbered in

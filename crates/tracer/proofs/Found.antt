@@ -33,6 +33,7 @@ module _ (rows : Rows) (cell : ℕ → ℕ → ℕ) (tall : Bool) (number x y : 
   line_found {c = suc i} l h p before =
       found (λ j. adds_to rows cell tall number x y (suc j)) (crossed tall x y / 2) (omega arith) p (λ j b. before (suc j) (omega arith) (omega arith))
 
-  pub no_line : ((j : ℕ) → 1 ≤ j → j ≤ crossed tall x y / 2 → adds_to rows cell tall number x y j ≡ false) → None ≡ least_line rows cell tall number x y
+  pub no_line : ((j : ℕ) → 1 ≤ j → j ≤ crossed tall x y / 2 → adds_to rows cell tall number x y j ≡ false)
+      → None ≡ least_line rows cell tall number x y
   unfolding least_line
   no_line before = none (λ j. adds_to rows cell tall number x y (suc j)) (crossed tall x y / 2) (λ j b. before (suc j) (omega arith) (omega arith))

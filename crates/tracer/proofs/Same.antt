@@ -58,11 +58,12 @@ module _ (rows : Rows) (cell other : ℕ → ℕ → ℕ) where
     where
       go : (p : WantedPart) → ((q : WantedPart) → sides_of q < sides_of p → Agree q) → 1 ≤ p.width → 1 ≤ p.height → Same p.width p.height → (step : Option Step)
           → step_in rows other p ≡ step
-          → (tree_by (traced rows cell) p step ≡ tree_by (traced rows other) p step) × (traces_by (traces rows cell) p step ≡ traces_by (traces rows other) p step)
+          → (tree_by (traced rows cell) p step ≡ tree_by (traced rows other) p step)
+          × (traces_by (traces rows cell) p step ≡ traces_by (traces rows other) p step)
       go p below h k same None e = (refl, refl)
       go p below h k same (Some Step.Scrap) e = (refl, refl)
       go p below h k same (Some (Step.Piece n)) e = (refl, refl)
-      go p below h k same (Some (Step.Line tall c wanted)) e =
+      go p below h k same (Some (Step.Line c wanted tall)) e =
           let l = step_inside rows other p e in
           let near = part_inside tall p.width p.height c h k l.least (omega (arith, l.most)) in
           let far = part_inside tall p.width p.height (rest (crossed tall p.width p.height) c) h k (line_far l) (omega arith) in

@@ -33,12 +33,12 @@ module _ (rows : Rows) (cell : ℕ → ℕ → ℕ) (x y : ℕ) {number n : ℕ}
     rule2 h = by_number (left (says_eq number 0) _ some (struck _ _ exact h))
 
     module _ (no-exact : e ≡ None) {c : Option ℕ} (across : c ≡ least_line rows cell false number x y) where
-      pub rule3 : {k : ℕ} → c ≡ Some k → Some (Step.Line false k Wanted.Free) ≡ ruled rows cell x y n
+      pub rule3 : {k : ℕ} → c ≡ Some k → Some (Step.Line k Wanted.Free false) ≡ ruled rows cell x y n
       unfolding ruled
       rule3 h = by_number (left (says_eq number 0) _ some (passed _ exact no-exact (struck _ _ across h)))
 
       module _ (no-across : c ≡ None) {d : Option ℕ} (up : d ≡ least_line rows cell true number x y) where
-        pub rule4 : {k : ℕ} → d ≡ Some k → Some (Step.Line true k Wanted.Free) ≡ ruled rows cell x y n
+        pub rule4 : {k : ℕ} → d ≡ Some k → Some (Step.Line k Wanted.Free true) ≡ ruled rows cell x y n
         unfolding ruled
         rule4 h = by_number (left (says_eq number 0) _ some (passed _ exact no-exact (passed _ across no-across (struck _ _ up h))))
 

@@ -125,9 +125,10 @@ module _ {pieces : List Piece} {rows : Rows} {a b : ℕ} (hold : Hold rows piece
   pub data Strikes : Option Step → Type 0 where
     rule1 : cell x y ≡ 0 → Strikes (Some Step.Scrap)
     rule2 : {k : ℕ} → (cell x y ≡ 0 → ⊥) → Least (Exact pieces a b cell x y) k → Strikes (Some (Step.Piece k))
-    rule3 : {c : ℕ} → (cell x y ≡ 0 → ⊥) → None (Exact pieces a b cell x y) → Least (AddsUp pieces a b cell false x y) c → Strikes (Some (Step.Line false c Wanted.Free))
+    rule3 : {c : ℕ} → (cell x y ≡ 0 → ⊥) → None (Exact pieces a b cell x y) → Least (AddsUp pieces a b cell false x y) c
+        → Strikes (Some (Step.Line c Wanted.Free false))
     rule4 : {d : ℕ} → (cell x y ≡ 0 → ⊥) → None (Exact pieces a b cell x y) → None (AddsUp pieces a b cell false x y)
-        → Least (AddsUp pieces a b cell true x y) d → Strikes (Some (Step.Line true d Wanted.Free))
+        → Least (AddsUp pieces a b cell true x y) d → Strikes (Some (Step.Line d Wanted.Free true))
     rule5 : {k : ℕ} → (cell x y ≡ 0 → ⊥) → None (Exact pieces a b cell x y) → None (AddsUp pieces a b cell false x y) → None (AddsUp pieces a b cell true x y)
         → Least (Fitting pieces a b cell x y) k → Strikes (Some (cut_out rows x y k))
     rule6 : (cell x y ≡ 0 → ⊥) → None (Exact pieces a b cell x y) → None (AddsUp pieces a b cell false x y) → None (AddsUp pieces a b cell true x y)
@@ -136,7 +137,8 @@ module _ {pieces : List Piece} {rows : Rows} {a b : ℕ} (hold : Hold rows piece
   -- The steps of rules 6.2 to 6.6, by what the searches answer.
   abbrev later_rules : Option ℕ → Option ℕ → Option ℕ → Option ℕ → Option Step
   later_rules e c d f =
-      strikes e Step.Piece (strikes c (λ k. Step.Line false k Wanted.Free) (strikes d (λ k. Step.Line true k Wanted.Free) (strikes f (cut_out rows x y) nothing)))
+      strikes e Step.Piece (strikes c (λ k. Step.Line k Wanted.Free false) (strikes d (λ k. Step.Line k Wanted.Free true)
+      (strikes f (cut_out rows x y) nothing)))
 
   in_order : (n : ℕ) (e c d f : Option ℕ) → n ≡ cell x y → Searched (Exact pieces a b cell x y) e → Searched (AddsUp pieces a b cell false x y) c
       → Searched (AddsUp pieces a b cell true x y) d → Searched (Fitting pieces a b cell x y) f
@@ -145,7 +147,8 @@ module _ {pieces : List Piece} {rows : Rows} {a b : ℕ} (hold : Hold rows piece
   in_order n e c d f is found across up fitting =
       either_way Strikes (says_eq n 0) _ _ (λ h. Strikes.rule1 (sym is ∙ h)) (λ h. go found across up fitting (λ z. h (is ∙ z)))
     where
-      go : {e c d f : Option ℕ} → Searched (Exact pieces a b cell x y) e → Searched (AddsUp pieces a b cell false x y) c → Searched (AddsUp pieces a b cell true x y) d
+      go : {e c d f : Option ℕ} → Searched (Exact pieces a b cell x y) e → Searched (AddsUp pieces a b cell false x y) c
+          → Searched (AddsUp pieces a b cell true x y) d
           → Searched (Fitting pieces a b cell x y) f → (cell x y ≡ 0 → ⊥)
           → Strikes (later_rules e c d f)
       go (Searched.least l) p q r z = Strikes.rule2 z l

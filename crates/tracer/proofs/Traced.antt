@@ -33,7 +33,7 @@ pub record LineStep (Good : Wanted → Type 0) (p : WantedPart) (tall : Bool) (c
 abbrev StepIs : (Wanted → Type 0) → WantedPart → Step → Type 0
 StepIs Good p Step.Scrap = Unit {0}
 StepIs Good p (Step.Piece k) = Unit {0}
-StepIs Good p (Step.Line tall c wanted) = LineStep Good p tall c wanted
+StepIs Good p (Step.Line c wanted tall) = LineStep Good p tall c wanted
 
 abbrev Steps : (Wanted → Type 0) → WantedPart → Option Step → Type 0
 Steps Good p None = Unit {0}
@@ -106,12 +106,12 @@ module _ (rows : Rows) (cell : ℕ → ℕ → ℕ) where
   any_steps : (p : WantedPart) → Steps (λ _. Unit {0}) p (step_in rows cell p)
   any_steps p = next_steps rows cell p (λ _. Unit {0}) tt (λ k l h. tt) (λ k e. tt)
 
-  pub step_inside : (p : WantedPart) {tall : Bool} {c : ℕ} {wanted : Wanted} → step_in rows cell p ≡ Some (Step.Line tall c wanted)
+  pub step_inside : (p : WantedPart) {tall : Bool} {c : ℕ} {wanted : Wanted} → step_in rows cell p ≡ Some (Step.Line c wanted tall)
       → Line (crossed tall p.width p.height) c (rest (crossed tall p.width p.height) c)
   step_inside p e = (subst (Steps (λ _. Unit {0}) p) e (any_steps p)).inside
 
   -- Its near part is free, or has a piece of the rows cut out of it.
-  pub step_among : (p : WantedPart) {tall : Bool} {c : ℕ} {wanted : Wanted} → Among rows p.wanted → step_in rows cell p ≡ Some (Step.Line tall c wanted)
+  pub step_among : (p : WantedPart) {tall : Bool} {c : ℕ} {wanted : Wanted} → Among rows p.wanted → step_in rows cell p ≡ Some (Step.Line c wanted tall)
       → Among rows wanted
   step_among p w e = (subst (Steps (Among rows) p) e (next_steps rows cell p (Among rows) tt (λ k l h. (l, h)) (λ k i. subst (Among rows) i w))).near
 
@@ -136,7 +136,7 @@ module _ (rows : Rows) (cell : ℕ → ℕ → ℕ) where
       go None s = refl
       go (Some Step.Scrap) s = refl
       go (Some (Step.Piece k)) s = refl
-      go (Some (Step.Line tall c wanted)) s = ap₂ (Tree.line tall c) (same _ (near_less tall c wanted p s.inside)) (same _ (far_less tall c wanted p s.inside))
+      go (Some (Step.Line c wanted tall)) s = ap₂ (Tree.line tall c) (same _ (near_less tall c wanted p s.inside)) (same _ (far_less tall c wanted p s.inside))
 
   test_parts : (g h : WantedPart → Bool) (p : WantedPart) → ((q : WantedPart) → sides_of q < sides_of p → g q ≡ h q)
       → traces_by g p (step_in rows cell p) ≡ traces_by h p (step_in rows cell p)
@@ -147,7 +147,7 @@ module _ (rows : Rows) (cell : ℕ → ℕ → ℕ) where
       go None s = refl
       go (Some Step.Scrap) s = refl
       go (Some (Step.Piece k)) s = refl
-      go (Some (Step.Line tall c wanted)) s = ap₂ ◌&&◌ (same _ (near_less tall c wanted p s.inside)) (same _ (far_less tall c wanted p s.inside))
+      go (Some (Step.Line c wanted tall)) s = ap₂ ◌&&◌ (same _ (near_less tall c wanted p s.inside)) (same _ (far_less tall c wanted p s.inside))
 
   -- The equations of the tree and of the test, where the next step is known.
   pub traced_own : (p : WantedPart) {step : Option Step} → step_in rows cell p ≡ step → traced rows cell p ≡ tree_by (traced rows cell) p step
@@ -176,7 +176,7 @@ length_line tall c s t = line-length (letter_of tall) c s t
 
 -- The code's test that a step is no line.
 abbrev pub NoLine : Step → Type 0
-NoLine s = (tall : Bool) (c : ℕ) (wanted : Wanted) → s ≡ Step.Line tall c wanted → ⊥
+NoLine s = (c : ℕ) (wanted : Wanted) (tall : Bool) → s ≡ Step.Line c wanted tall → ⊥
 
 -- What a line measures, by what its two parts do: nothing where one of them measures nothing.
 pub record MeasuredLine (near far whole : Option ℕ) : Type 0 where
@@ -203,20 +203,21 @@ module _ (rows : Rows) (cell : ℕ → ℕ → ℕ) (p : WantedPart) where
   unfolding traces_by tree_by
   measured_leaf Step.Scrap l e = sym (ap Some scrap-length) ∙ measured_own e
   measured_leaf (Step.Piece k) l e = sym (ap Some (piece-length k)) ∙ measured_own e
-  measured_leaf (Step.Line tall c wanted) l e = absurd (l tall c wanted refl)
+  measured_leaf (Step.Line c wanted tall) l e = absurd (l c wanted tall refl)
 
   pub nodes_leaf : (step : Step) → NoLine step → unwrap_or (step_in rows cell p) Step.Scrap ≡ step → encode (traced rows cell p) ≡ node_of step
   unfolding tree_by encode node_of
   nodes_leaf = go (step_in rows cell p) refl
     where
-      go : (found : Option Step) → step_in rows cell p ≡ found → (step : Step) → NoLine step → unwrap_or found Step.Scrap ≡ step → encode (traced rows cell p) ≡ node_of step
+      go : (found : Option Step) → step_in rows cell p ≡ found → (step : Step) → NoLine step → unwrap_or found Step.Scrap ≡ step
+          → encode (traced rows cell p) ≡ node_of step
       go None e step l f = ap encode (traced_own rows cell p e) ∙ ap node_of f
       go (Some Step.Scrap) e step l f = ap encode (traced_own rows cell p e) ∙ ap node_of f
       go (Some (Step.Piece k)) e step l f = ap encode (traced_own rows cell p e) ∙ ap node_of f
-      go (Some (Step.Line tall c wanted)) e step l f = absurd (l tall c wanted (sym f))
+      go (Some (Step.Line c wanted tall)) e step l f = absurd (l c wanted tall (sym f))
 
   -- A line's two parts, each by itself.
-  module _ {tall : Bool} {c : ℕ} {wanted : Wanted} (e : step_in rows cell p ≡ Some (Step.Line tall c wanted)) where
+  module _ {tall : Bool} {c : ℕ} {wanted : Wanted} (e : step_in rows cell p ≡ Some (Step.Line c wanted tall)) where
     abbrev near : WantedPart
     near = near_wanted tall c wanted p
 
@@ -244,7 +245,7 @@ module _ (rows : Rows) (cell : ℕ → ℕ → ℕ) (p : WantedPart) where
         go false d s t = record { no_near = λ e. refl; no_far = λ e. refl; both = λ e f. absurd (none-some _ e) }
 
     pub nodes_line : encode (traced rows cell p)
-        ≡ node_of (Step.Line tall c wanted) ++ (encode (traced rows cell near) ++ encode (traced rows cell far))
+        ≡ node_of (Step.Line c wanted tall) ++ (encode (traced rows cell near) ++ encode (traced rows cell far))
     unfolding tree_by encode node_of
     nodes_line = ap encode (traced_own rows cell p e)
 
@@ -262,12 +263,13 @@ module _ (rows : Rows) (cell : ℕ → ℕ → ℕ) where
       by_size sides_of (λ p. Bounded p (traced rows cell p))
       (λ p below. subst (Bounded p) (sym (traced_own rows cell p refl)) (grown p below (step_in rows cell p) (any_steps rows cell p)))
     where
-      grown : (p : WantedPart) → ((q : WantedPart) → sides_of q < sides_of p → Bounded q (traced rows cell q)) → (step : Option Step) → Steps (λ _. Unit {0}) p step
+      grown : (p : WantedPart) → ((q : WantedPart) → sides_of q < sides_of p → Bounded q (traced rows cell q)) → (step : Option Step)
+          → Steps (λ _. Unit {0}) p step
           → Bounded p (tree_by (traced rows cell) p step)
       grown p below None s h k = unit _ _ _ h k scrap-length
       grown p below (Some Step.Scrap) s h k = unit _ _ _ h k scrap-length
       grown p below (Some (Step.Piece n)) s h k = unit _ _ _ h k (piece-length n)
-      grown p below (Some (Step.Line tall c wanted)) s h k =
+      grown p below (Some (Step.Line c wanted tall)) s h k =
           let l = s.inside in
           let near = below (near_wanted tall c wanted p) (near_less tall c wanted p l) (least tall _ _ h l.least) (least tall _ _ l.least k) in
           let far = below (far_wanted tall c wanted p) (far_less tall c wanted p l) (least tall _ _ h (line_far l)) (least tall _ _ (line_far l) k) in

@@ -14,7 +14,7 @@ use Rattle.laws.specs.Inner.{Room, Wrote}
 use Rattle.tracer.proofs.Wrote.{near_room, far_room, wrote_line}
 use Rattle.tracer.proofs.Traced.{MeasuredLine, step_inside, step_among, near_less, far_less, measured_line, measured_most, nodes_line}
 
-scrap-line : {tall : Bool} {c : ℕ} {wanted : Wanted} → Step.Scrap ≡ Step.Line tall c wanted → ⊥
+scrap-line : {tall : Bool} {c : ℕ} {wanted : Wanted} → Step.Scrap ≡ Step.Line c wanted tall → ⊥
 scrap-line e = cc
 
 beyond_among : (board : Board) (wanted : Wanted) → Among (rows_on board) (beyond wanted)
@@ -27,12 +27,13 @@ pub some_line : {s found : Option Step} {t u : Step} → s ≡ found → s ≡ S
 some_line e f g = sym e ∙ (f ∙ ap Some g)
 
 pub line_or_scrap : {s found : Option Step} {t : Step} {tall : Bool} {c : ℕ} {wanted : Wanted} → s ≡ found → t ≡ unwrap_or s Step.Scrap
-    → t ≡ Step.Line tall c wanted → found ≡ Some (Step.Line tall c wanted)
+    → t ≡ Step.Line c wanted tall → found ≡ Some (Step.Line c wanted tall)
 line_or_scrap {s = None} e f g = absurd (scrap-line (sym f ∙ g))
 line_or_scrap {s = Some u} e f g = some_line e (ap Some (sym f)) g
 
 -- No part measures more than the whole table may.
-pub part_short : {board : Board} {t : List ℕ} {p : WantedPart} (cell : ℕ → ℕ → ℕ) {k : Option ℕ} {n : ℕ} → Traceable board p → Holds (width_on board) (height_on board) t
+pub part_short : {board : Board} {t : List ℕ} {p : WantedPart} (cell : ℕ → ℕ → ℕ) {k : Option ℕ} {n : ℕ} → Traceable board p
+    → Holds (width_on board) (height_on board) t
     → k ≡ measured (rows_on board) cell p → k ≡ Some n → n ≤ length_most
 part_short {board} {p = p} cell r h e f =
     let i = r.inside in
@@ -54,7 +55,7 @@ pub record FarPart (p : WantedPart) (tall : Bool) (c : ℕ) (wanted : Wanted) (k
 
 -- The code found a line.
 module _ {board : Board} {p : WantedPart} (ready : Traceable board p) (cell : ℕ → ℕ → ℕ) {tall : Bool} {c : ℕ} {wanted : Wanted}
-    (step : step_in (rows_on board) cell p ≡ Some (Step.Line tall c wanted)) where
+    (step : step_in (rows_on board) cell p ≡ Some (Step.Line c wanted tall)) where
   pub line_inside : Line (crossed tall p.width p.height) c (rest (crossed tall p.width p.height) c)
   line_inside = step_inside (rows_on board) cell p step
 
@@ -89,7 +90,8 @@ module _ {board : Board} {p : WantedPart} (ready : Traceable board p) (cell : �
 
   -- What the line measures by its parts.
   pub near_measures : {k w h : ℕ} → NearPart p tall c k w h
-      → MeasuredLine (measured (rows_on board) cell (part_of w h wanted)) (measured (rows_on board) cell (far_wanted tall c wanted p)) (measured (rows_on board) cell p)
+      → MeasuredLine (measured (rows_on board) cell (part_of w h wanted)) (measured (rows_on board) cell (far_wanted tall c wanted p))
+      (measured (rows_on board) cell p)
   near_measures near = rw (near_is near) (measured_line (rows_on board) cell p step)
 
   pub parts_measure : {k w h : ℕ} → NearPart p tall c k w h → {side r u v : ℕ} {b : Wanted} → FarPart p tall c wanted k side r u v b
@@ -97,12 +99,12 @@ module _ {board : Board} {p : WantedPart} (ready : Traceable board p) (cell : �
   parts_measure near far = rw (near_is near, far_is far) (measured_line (rows_on board) cell p step)
 
   -- The nodes of its parts q and r, behind that of the step s, which is the line.
-  line_nodes : {q r : WantedPart} {s : Step} → s ≡ Step.Line tall c wanted → q ≡ near_wanted tall c wanted p → r ≡ far_wanted tall c wanted p
+  line_nodes : {q r : WantedPart} {s : Step} → s ≡ Step.Line c wanted tall → q ≡ near_wanted tall c wanted p → r ≡ far_wanted tall c wanted p
       → encode (traced (rows_on board) cell p) ≡ node_of s ++ (encode (traced (rows_on board) cell q) ++ encode (traced (rows_on board) cell r))
   line_nodes e near far = rw (e, near, far) (nodes_line (rows_on board) cell p step)
 
   -- The line's node is written: there is room for the near part, then for the far part, and with that the line is written.
-  module _ {s : Step} (is : s ≡ Step.Line tall c wanted) {k w h : ℕ} (near : NearPart p tall c k w h)
+  module _ {s : Step} (is : s ≡ Step.Line c wanted tall) {k w h : ℕ} (near : NearPart p tall c k w h)
       {o o2 : List ℕ} {at m : ℕ} (room : Room o at (encode (traced (rows_on board) cell p))) (first : Wrote o at (node_of s) m o2) where
     pub near_write : {n : ℕ} → sides_of p ≡ n
         → (sides_of (part_of w h wanted) < n) × (Traceable board (part_of w h wanted) × Room o2 m (encode (traced (rows_on board) cell (part_of w h wanted))))

@@ -7,12 +7,14 @@ use Rattle.cutting.specs.Limits.{side_max}
 use Rattle.cutting.specs.Dissection.{rest, crossed, part_width, part_height}
 use Rattle.cutting.specs.Tree.{Tree, Valid, earning}
 use Rattle.fields.specs.Format.{node_length, letter_p, letter_s}
+use Rattle.cells.specs.Cells.{cell_of}
 use Rattle.cells.specs.Inner.{fits}
 use Rattle.board.specs.declared.Board.{Board}
 use Rattle.board.specs.Inner.{Rows, rows_on, width_on, height_on}
 use Rattle.nodes.specs.Encoding.{letter_of, node, encode}
 use Rattle.tracer.specs.declared.Wanted.{Wanted}
 use Rattle.tracer.specs.declared.Step.{Step}
+use Rattle.tracer.specs.declared.table.Table.{Table}
 
 -- A part of the sheet that is traced.
 pub record WantedPart : Type 0 where
@@ -81,7 +83,7 @@ least_line rows cell tall number x y = some_number (first_number (λ i. adds_to 
 
 -- A line at `size` where that is inside the side, else what comes after it.
 unfoldable pub trimmed_to : Bool → ℕ → ℕ → Wanted → Step → Step
-trimmed_to tall size side wanted after = cond (leb 1 size && ltb size side) (Step.Line tall size wanted) after
+trimmed_to tall size side wanted after = cond (leb 1 size && ltb size side) (Step.Line size wanted tall) after
 
 -- The next step to piece k: a vertical line to its width, else a horizontal one to its height, else the piece (rule 6.5).
 unfoldable pub cut_out : Rows → ℕ → ℕ → ℕ → Step
@@ -103,9 +105,9 @@ ruled rows cell x y number =
     -- Rule 6.2: the first piece of exactly this size.
     (strikes (first_piece rows (is_size rows x y) number) Step.Piece
     -- Rule 6.3: the least vertical line, and both parts free.
-    (strikes (least_line rows cell false number x y) (λ c. Step.Line false c Wanted.Free)
+    (strikes (least_line rows cell false number x y) (λ c. Step.Line c Wanted.Free false)
     -- Rule 6.4: the least horizontal line, and both parts free.
-    (strikes (least_line rows cell true number x y) (λ d. Step.Line true d Wanted.Free)
+    (strikes (least_line rows cell true number x y) (λ d. Step.Line d Wanted.Free true)
     -- Rule 6.5: the first piece that fits, cut out.
     (strikes (first_piece rows (fits_in rows x y) number) (cut_out rows x y)
     -- Rule 6.6: none of these.
@@ -127,14 +129,14 @@ unfoldable pub tree_by : (WantedPart → Tree) → WantedPart → Option Step �
 tree_by part p None = Tree.scrap_s
 tree_by part p (Some Step.Scrap) = Tree.scrap_s
 tree_by part p (Some (Step.Piece k)) = Tree.piece_p k
-tree_by part p (Some (Step.Line tall c wanted)) = Tree.line tall c (part (near_wanted tall c wanted p)) (part (far_wanted tall c wanted p))
+tree_by part p (Some (Step.Line c wanted tall)) = Tree.line tall c (part (near_wanted tall c wanted p)) (part (far_wanted tall c wanted p))
 
 -- Does rule 6.6 strike nowhere, where `part` says it of a part?
 unfoldable pub traces_by : (WantedPart → Bool) → WantedPart → Option Step → Bool
 traces_by part p None = false
 traces_by part p (Some Step.Scrap) = true
 traces_by part p (Some (Step.Piece k)) = true
-traces_by part p (Some (Step.Line tall c wanted)) = part (near_wanted tall c wanted p) && part (far_wanted tall c wanted p)
+traces_by part p (Some (Step.Line c wanted tall)) = part (near_wanted tall c wanted p) && part (far_wanted tall c wanted p)
 
 -- Each line shortens a side.
 abbrev pub sides_of : WantedPart → ℕ
@@ -155,7 +157,7 @@ measured rows cell p = cond (traces rows cell p) (Some (length (encode (traced r
 unfoldable pub node_of : Step → List ℕ
 node_of Step.Scrap = node letter_s 0
 node_of (Step.Piece k) = node letter_p k
-node_of (Step.Line tall c _) = node (letter_of tall) c
+node_of (Step.Line c _ tall) = node (letter_of tall) c
 
 -- No tree on a sheet is longer than this: two nodes for each unit of area.
 abbrev pub length_most : ℕ
@@ -167,7 +169,7 @@ Among rows Wanted.Free = Unit {0}
 Among rows (Wanted.Piece k) = (1 ≤ k) × (k ≤ rows.count)
 Among rows Wanted.Waste = Unit {0}
 
--- Every piece is at least 1 by 1, or nothing would shrink.
+-- Every piece is at least 1 by 1, or nothing would shrink: what a table's field `sized` says.
 abbrev pub Sized : Rows → Type 0
 Sized rows = (k : ℕ) → k < rows.count → (1 ≤ rows.width k) × (1 ≤ rows.height k)
 
@@ -180,3 +182,14 @@ pub record Traceable (board : Board) (p : WantedPart) : Type 0 where
 pub record Dissects (pieces : List Piece) (t : Tree) (x y number : ℕ) : Type 0 where
   pub valid : Valid pieces t x y
   pub earns : earning pieces t ≡ number
+
+-- What the code reads a tree from, as its clauses name it.
+abbrev pub rows_in : Table → Rows
+rows_in t = rows_on t.board.now
+
+abbrev pub cell_in : Table → ℕ → ℕ → ℕ
+cell_in t = cell_of (width_on t.board.now) t.cells.now
+
+-- The rectangle lies on the sheet.
+abbrev pub OnSheet : Table → ℕ → ℕ → Type 0
+OnSheet t x y = Inside x y (width_on t.board.now) (height_on t.board.now)

@@ -1,7 +1,6 @@
 // The next step in a part, by what is wanted of it.
 ghost use Rattle.std.specs.Prelude.{◌≡◌, ◌≤◌};
-ghost use Rattle.tracer.specs.Inner.{part_of, cut_out, ruled, Traceable, step_in};
-ghost use Rattle.tracer.specs.Table.{rows_in, cell_in, OnSheet};
+ghost use Rattle.tracer.specs.Inner.{part_of, cut_out, ruled, Traceable, step_in, rows_in, cell_in, OnSheet};
 
 use crate::search::{exact_piece, fitting_piece, least_line, number_of};
 use crate::table::Table;
@@ -15,10 +14,10 @@ fn cut_out(table: &Table, width: usize, height: usize, number: u16) -> Step
 {
     let piece = table.board.piece(usize::from(number) - 1);
     if usize::from(piece.width) < width {
-        return Step::Line(false, piece.width, Wanted::Piece(number));
+        return Step::Line(piece.width, Wanted::Piece(number), false);
     }
     if usize::from(piece.height) < height {
-        return Step::Line(true, piece.height, Wanted::Piece(number));
+        return Step::Line(piece.height, Wanted::Piece(number), true);
     }
     Step::Piece(number)
 }
@@ -36,10 +35,10 @@ fn ruled(table: &Table, width: usize, height: usize) -> Option<Step>
         return Some(Step::Piece(exact));
     }
     if let Some(c) = least_line(table, false, number, width, height) {
-        return Some(Step::Line(false, c, Wanted::Free));
+        return Some(Step::Line(c, Wanted::Free, false));
     }
     if let Some(d) = least_line(table, true, number, width, height) {
-        return Some(Step::Line(true, d, Wanted::Free));
+        return Some(Step::Line(d, Wanted::Free, true));
     }
     let fitting = fitting_piece(table, width, height, number)?;
     Some(cut_out(table, width, height, fitting))

@@ -3,8 +3,7 @@ ghost use Rattle.std.specs.Prelude.{◌≡◌, ◌&&◌, ◌≤◌, ◌<◌, ℕ
 ghost use Rattle.cutting.specs.Candidate.{UpToHalf};
 ghost use Rattle.cutting.specs.Dissection.{crossed as crossed_of};
 ghost use Rattle.cells.specs.Cells.{empty};
-ghost use Rattle.tracer.specs.Inner.{two_cells, is_size, fits_in, first_piece, adds_to, least_line};
-ghost use Rattle.tracer.specs.Table.{rows_in, cell_in, OnSheet};
+ghost use Rattle.tracer.specs.Inner.{two_cells, is_size, fits_in, first_piece, adds_to, least_line, rows_in, cell_in, OnSheet};
 
 use crate::table::Table;
 use board::line::{crossed, part_height, part_width, rest};

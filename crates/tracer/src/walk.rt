@@ -1,9 +1,9 @@
 // The tree of a part, step by step: first the length of its nodes, then the nodes. What a level carries is small: 479 may lie one below the other.
+// So a part goes down as plain numbers: tried as a struct of the three, which is copied for each call, a level took 96 bytes of stack in place of 80.
 ghost use Rattle.std.specs.Prelude.{◌≡◌, ◌+◌, ◌≤◌, length};
 ghost use Rattle.fields.specs.Format.{node_length};
 ghost use Rattle.nodes.specs.Encoding.{letter_of, node, encode};
-ghost use Rattle.tracer.specs.Inner.{part_of, node_of, Traceable, traced, measured};
-ghost use Rattle.tracer.specs.Table.{rows_in, cell_in};
+ghost use Rattle.tracer.specs.Inner.{part_of, node_of, Traceable, traced, measured, rows_in, cell_in};
 ghost use Rattle.laws.specs.Inner.{Room, Wrote};
 
 use crate::next::next_step;
@@ -18,7 +18,7 @@ pub fn measure(table: &Table, width: usize, height: usize, wanted: Wanted) -> Op
     requires { Traceable table.now.board.now (part_of width height wanted) }
     ensures { result ≡ measured (rows_in table.now) (cell_in table.now) (part_of width height wanted) }
 {
-    let Step::Line(tall, at, near) = next_step(table, width, height, wanted)? else {
+    let Step::Line(at, near, tall) = next_step(table, width, height, wanted)? else {
         return Some(NODE_LENGTH);
     };
     let c = usize::from(at);
@@ -64,7 +64,7 @@ fn write_step(o: &mut [u8], at: usize, step: Step) -> usize
     match step {
         Step::Scrap => write_node(o, at, SCRAP, 0),
         Step::Piece(number) => write_node(o, at, PIECE, number),
-        Step::Line(tall, c, _) => write_node(o, at, letter_of(tall), c),
+        Step::Line(c, _, tall) => write_node(o, at, letter_of(tall), c),
     }
 }
 
@@ -83,7 +83,7 @@ pub fn write(
 {
     let next = next_step(table, width, height, wanted).unwrap_or(Step::Scrap);
     let after = write_step(o, at, next);
-    let Step::Line(tall, place, near) = next else {
+    let Step::Line(place, near, tall) = next else {
         return after;
     };
     let c = usize::from(place);

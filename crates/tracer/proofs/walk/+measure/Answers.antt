@@ -3,30 +3,33 @@ use Rattle.tracer.proofs.Traced.{measured_struck, measured_leaf}
 use Rattle.tracer.proofs.Walked.{some_line, part_short, line_inside, near_call, far_call, near_measures, parts_measure}
 use Rattle.tracer.proofs.walk.+measure.Goals as goal
 
-pub returns-in_err-tall : goal.returns-in_err-tall
-returns-in_err-tall t c = c.from_residual.ensures ∙ measured_struck _ _ _ (sym c.next_step.ensures ∙ c.in_err-tall.was)
+pub returns-in_err-at : goal.returns-in_err-at
+returns-in_err-at t c = c.from_residual.ensures ∙ measured_struck _ _ _ (sym c.next_step.ensures ∙ c.in_err-at.was)
 
 pub returns-in_default : goal.returns-in_default
-returns-in_default t c = measured_leaf _ _ _ _ c.in_default.not-Line (sym c.next_step.ensures ∙ c.in_ok-tall.was)
+returns-in_default t c = measured_leaf _ _ _ _ c.in_default.not-Line (sym c.next_step.ensures ∙ c.in_ok-at.was)
 
 pub measure-requires : goal.measure-requires
 measure-requires t c =
-    let step = some_line c.next_step.ensures c.in_ok-tall.was c.in-Line.is in
-    near_call c.requires _ step (record { place = c.from-c.ensures; width = c.part_width.ensures; height = c.part_height.ensures }) c.decreases
+    let step = some_line c.next_step.ensures c.in_ok-at.was c.in-Line.is in
+    near_call c.requires _ step
+    (record { place = c.from-c.ensures; width = c.part_width.ensures; height = c.part_height.ensures })
+    c.decreases
 
 pub returns-in_err-first : goal.returns-in_err-first
 returns-in_err-first t c =
-    let step = some_line c.next_step.ensures c.in_ok-tall.was c.in-Line.is in
-    c.from_residual-in_err-first.ensures ∙ (near_measures c.requires _ step (record { place = c.from-c.ensures; width = c.part_width.ensures; height = c.part_height.ensures })).no_near (sym c.measure.ensures ∙ c.in_err-first.was)
+    let step = some_line c.next_step.ensures c.in_ok-at.was c.in-Line.is in
+    c.from_residual-in_err-first.ensures ∙ (near_measures c.requires _ step
+    (record { place = c.from-c.ensures; width = c.part_width.ensures; height = c.part_height.ensures })).no_near (sym c.measure.ensures ∙ c.in_err-first.was)
 
 pub rest-r-requires : goal.rest-r-requires
 rest-r-requires t c =
-    let step = some_line c.next_step.ensures c.in_ok-tall.was c.in-Line.is in
+    let step = some_line c.next_step.ensures c.in_ok-at.was c.in-Line.is in
     omega (arith, line_inside c.requires _ step, c.from-c.ensures, c.crossed.ensures)
 
 pub measure-requires-2 : goal.measure-requires-2
 measure-requires-2 t c =
-    let step = some_line c.next_step.ensures c.in_ok-tall.was c.in-Line.is in
+    let step = some_line c.next_step.ensures c.in_ok-at.was c.in-Line.is in
     far_call c.requires _ step (record {
       place = c.from-c.ensures;
       across = c.crossed.ensures;
@@ -38,9 +41,10 @@ measure-requires-2 t c =
 
 pub returns-in_err-second : goal.returns-in_err-second
 returns-in_err-second t c =
-    let step = some_line c.next_step.ensures c.in_ok-tall.was c.in-Line.is in
+    let step = some_line c.next_step.ensures c.in_ok-at.was c.in-Line.is in
     c.from_residual-in_err-second.ensures
-    ∙ (parts_measure c.requires _ step (record { place = c.from-c.ensures; width = c.part_width.ensures; height = c.part_height.ensures })
+    ∙ (parts_measure c.requires _ step
+    (record { place = c.from-c.ensures; width = c.part_width.ensures; height = c.part_height.ensures })
     (record {
       place = c.from-c.ensures;
       across = c.crossed.ensures;
@@ -52,14 +56,18 @@ returns-in_err-second t c =
 
 pub overflow_add-result : goal.overflow_add-result
 overflow_add-result t c =
-    let step = some_line c.next_step.ensures c.in_ok-tall.was c.in-Line.is in
-    let near = part_short _ (near_call c.requires _ step (record { place = c.from-c.ensures; width = c.part_width.ensures; height = c.part_height.ensures }) c.decreases).1 c.args.table.now.holds c.measure.ensures c.in_ok-first.was in
+    let step = some_line c.next_step.ensures c.in_ok-at.was c.in-Line.is in
+    let near = part_short _ (near_call c.requires _ step
+    (record { place = c.from-c.ensures; width = c.part_width.ensures; height = c.part_height.ensures })
+    c.decreases).1 c.args.table.now.holds c.measure.ensures c.in_ok-first.was in
     omega (arith, near)
 
 pub overflow_add-result-2 : goal.overflow_add-result-2
 overflow_add-result-2 t c =
-    let step = some_line c.next_step.ensures c.in_ok-tall.was c.in-Line.is in
-    let near = part_short _ (near_call c.requires _ step (record { place = c.from-c.ensures; width = c.part_width.ensures; height = c.part_height.ensures }) c.decreases).1 c.args.table.now.holds c.measure.ensures c.in_ok-first.was in
+    let step = some_line c.next_step.ensures c.in_ok-at.was c.in-Line.is in
+    let near = part_short _ (near_call c.requires _ step
+    (record { place = c.from-c.ensures; width = c.part_width.ensures; height = c.part_height.ensures })
+    c.decreases).1 c.args.table.now.holds c.measure.ensures c.in_ok-first.was in
     let far = part_short _ (far_call c.requires _ step (record {
       place = c.from-c.ensures;
       across = c.crossed.ensures;
@@ -72,8 +80,9 @@ overflow_add-result-2 t c =
 
 pub returns : goal.returns
 returns t c =
-    let step = some_line c.next_step.ensures c.in_ok-tall.was c.in-Line.is in
-    (parts_measure c.requires _ step (record { place = c.from-c.ensures; width = c.part_width.ensures; height = c.part_height.ensures })
+    let step = some_line c.next_step.ensures c.in_ok-at.was c.in-Line.is in
+    (parts_measure c.requires _ step
+    (record { place = c.from-c.ensures; width = c.part_width.ensures; height = c.part_height.ensures })
     (record {
       place = c.from-c.ensures;
       across = c.crossed.ensures;

@@ -17,7 +17,9 @@ returns-in_default t c =
 pub write-middle-requires : goal.write-middle-requires
 write-middle-requires t c =
     let step = line_or_scrap c.next_step.ensures c.unwrap_or-next.ensures c.in-Line.is in
-    near_write c.requires.traceable _ step c.in-Line.is (record { place = c.from-c.ensures; width = c.part_width.ensures; height = c.part_height.ensures }) c.requires.room c.write_step-after.ensures c.decreases
+    near_write c.requires.traceable _ step c.in-Line.is
+    (record { place = c.from-c.ensures; width = c.part_width.ensures; height = c.part_height.ensures })
+    c.requires.room c.write_step-after.ensures c.decreases
 
 pub rest-r-requires : goal.rest-r-requires
 rest-r-requires t c =
@@ -27,7 +29,9 @@ rest-r-requires t c =
 pub write-requires : goal.write-requires
 write-requires t c =
     let step = line_or_scrap c.next_step.ensures c.unwrap_or-next.ensures c.in-Line.is in
-    far_write c.requires.traceable _ step c.in-Line.is (record { place = c.from-c.ensures; width = c.part_width.ensures; height = c.part_height.ensures }) c.requires.room c.write_step-after.ensures (record {
+    far_write c.requires.traceable _ step c.in-Line.is
+    (record { place = c.from-c.ensures; width = c.part_width.ensures; height = c.part_height.ensures })
+    c.requires.room c.write_step-after.ensures (record {
       place = c.from-c.ensures;
       across = c.crossed.ensures;
       leaves = c.rest-r.ensures;
@@ -40,7 +44,9 @@ write-requires t c =
 pub returns : goal.returns
 returns t c =
     let step = line_or_scrap c.next_step.ensures c.unwrap_or-next.ensures c.in-Line.is in
-    line_written c.requires.traceable _ step c.in-Line.is (record { place = c.from-c.ensures; width = c.part_width.ensures; height = c.part_height.ensures }) c.requires.room c.write_step-after.ensures (record {
+    line_written c.requires.traceable _ step c.in-Line.is
+    (record { place = c.from-c.ensures; width = c.part_width.ensures; height = c.part_height.ensures })
+    c.requires.room c.write_step-after.ensures (record {
       place = c.from-c.ensures;
       across = c.crossed.ensures;
       leaves = c.rest-r.ensures;

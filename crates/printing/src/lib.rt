@@ -6,6 +6,7 @@ ghost use Rattle.printing.specs.Inner.{Writes};
 ghost use Rattle.printing.specs.Decimal.{digit, decimal};
 
 // A lent row, and how far it is written. No `write!`: it promises the text where it succeeds, and not that it does; these put it always.
+#[derive(Drop)]
 pub struct Text<'a> {
     pub row: &'a mut [u8],
     pub at: usize,

@@ -10,7 +10,6 @@ use Rattle.laws.specs.ByIndex.{by_index}
 use Rattle.laws.specs.Refusal.{Gives}
 use Rattle.laws.proofs.ByIndex.{by_index-length}
 use Rattle.laws.proofs.Order.{le_or_lt}
-use Rattle.laws.proofs.Says.{says_no}
 use Rattle.cutting.specs.Limits.{side_max, pieces_max}
 use Rattle.cutting.specs.Piece.{Inside, InRange}
 use Rattle.cutting.specs.Dissection.{Best}

@@ -1,5 +1,5 @@
 -- A job opened anew and its pieces added one by one, as the code goes: to the end, or to the first refusal.
-use Rattle.std.proofs.Common.{ℕ, zero, suc, ◌+◌, ◌-◌, ◌≤◌, ◌≡◌, refl, sym, ap, ◌∙◌, List, get_or, arith, add-zero, add-suc, Result, Ok, Err, IsErrAnd}
+use Rattle.std.proofs.Common.{ℕ, zero, suc, ◌+◌, ◌-◌, ◌≤◌, ◌≡◌, refl, sym, ap, ◌∙◌, List, length, take, get_or, ◌<◌, arith, get_or-take, length-take, add-zero, add-suc, Result, Ok, Err, IsErrAnd}
 use Rattle.std.proofs.Math.Numerals.{add-one}
 use Rattle.refusals.specs.declared.Refusal.{Refusal}
 use Rattle.refusals.specs.Refusals.{number}
@@ -54,6 +54,13 @@ module _ (from : Job) (t : List ℕ) where
         λ i. accepted (e i).refusal (added_job (e i).job (f i) (g i)) (e i),
         λ i. accepted (e i).refusal (added_cells (e i).job (f i) (g i)) (f i),
       )
+
+-- The piece that comes next.
+pub piece_read : (from : Job) {items : List Record} (k : ℕ) → items ≡ take from.count from.pieces → k < length items
+    → get_or items k no_record ≡ get_or from.pieces k no_record
+piece_read from k e h =
+    ap (λ (l : List Record). get_or l k no_record) e
+    ∙ get_or-take from.count from.pieces k no_record (omega (arith, ap length e, length-take from.count from.pieces))
 
 -- The sheet opened.
 pub begun_none : (from : Job) (t : List ℕ) {a b : ℕ} → a ≡ from.width → b ≡ from.height

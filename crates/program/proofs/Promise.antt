@@ -1,14 +1,15 @@
 -- The promise determines length and bytes, and the first of them are the text; what is printed with room keeps it.
 use Prim.Native.Nat.{ℕ, ◌+◌}
 use mathlib.Core.Path.{◌≡◌, sym, ap, ap₂, ◌∙◌}
-use mathlib.Core.List.{List}
+use mathlib.Core.List.{List, []}
 use native.Mathlib.Omega.{arith}
 use lib.ListN.{length, take}
 use Rattle.laws.proofs.Put.{put_front}
 use Rattle.laws.specs.Put.{put}
 use Rattle.printing.specs.declared.Text.{Text}
 use Rattle.printing.specs.Inner.{Writes}
-use Rattle.printing.proofs.Printed.{printed_put}
+use Rattle.printing.proofs.Printed.{printed_put, writes_both, writes_as}
+use Rattle.listing.specs.Line.{refused_text}
 use Rattle.program.specs.Sizes.{text_most}
 use Rattle.program.specs.Program.{program_text}
 use Rattle.program.specs.Promise.{ProgramPromise}
@@ -28,9 +29,14 @@ module _ (block o : List ℕ) {p : List ℕ} {r : ℕ} (f : ProgramPromise block
   pub program_within : r ≡ length (take r p)
   program_within = f.0 ∙ sym (ap length program_prints)
 
--- What was printed with room for every text, on a row from its start.
-pub kept : (block : List ℕ) {t u : Text} → t.at ≡ 0 → length t.row.now ≡ text_most → Writes t (program_text block) u
-    → ProgramPromise block t.row.now u.at u.row.now
-kept block {t} e h w =
-    let k = printed_put (omega (arith, e, text_fits block)) w.printed in
-    (omega (arith, k.0, e), k.1 ∙ ap (λ (n : ℕ). put t.row.now n (program_text block)) e)
+-- What was printed from a row's start, with room for every text.
+pub kept : (block : List ℕ) {o : List ℕ} {t u : Text} → t.row.now ≡ o → t.at ≡ 0 → length o ≡ text_most → Writes t (program_text block) u
+    → ProgramPromise block o u.at u.row.now
+kept block {t = t} row start h w =
+    let k = printed_put (omega (arith, start, ap length row, text_fits block)) w.printed in
+    (omega (arith, k.0, start), k.1 ∙ ap₂ (λ (l : List ℕ) (n : ℕ). put l n (program_text block)) row start)
+
+-- A refusal's line, where nothing was printed before.
+pub refused_after : {text : List ℕ} {t u v : Text} {n k : ℕ} → (text ≡ refused_text k) × Writes t [] u → n ≡ k → Writes u (refused_text n) v
+    → Writes t text v
+refused_after e f w = writes_as (ap refused_text f ∙ sym e.0) (writes_both [] (refused_text _) e.1 w)

@@ -1,6 +1,5 @@
 -- What is printed for each answer, as the code goes.
 use Prim.Native.Nat.{ℕ, zero, suc, ◌+◌, ◌≤◌}
-use mathlib.Core.Bool.{Bool, true, false}
 use Rattle.std.proofs.Common.{Some, None, Result, Ok, Err, IsErrAnd}
 use Rattle.refusals.specs.declared.Refusal.{Refusal}
 use Rattle.refusals.specs.Refusals.{bad_job, number}
@@ -22,7 +21,6 @@ use Rattle.job.specs.Range.{JobInRange}
 use Rattle.job.proofs.Blocks.{from_block_some}
 use Rattle.printing.specs.declared.Text.{Text}
 use Rattle.printing.proofs.Printed.{writes_nothing}
-use Rattle.desk.specs.Changing.{Changed}
 use Rattle.desk.specs.Asking.{Answered, Refused}
 use Rattle.desk.specs.Inner.{accepted, ask_refused, asked, asked_cells, filled_for, asked_with}
 use Rattle.plan.specs.Planning.{Written, Refused as NoPlan}
@@ -30,9 +28,10 @@ use Rattle.plan.specs.Inner.{tree_for, plan_file, plan_refused, planned, planned
 use Rattle.plan.proofs.Tracing.{tree_by_rules, tree_earns}
 use Rattle.plan.proofs.Exactly.{plan_granted}
 use Rattle.listing.specs.Line.{refused_text}
+use Rattle.program.specs.Entry.{entered}
 use Rattle.program.specs.Sizes.{plan_room}
 use Rattle.program.specs.Inner.{HoldsPlan, AnswersAs, PrintsText}
-use Rattle.program.specs.Program.{text_or, plan_text, planned_text, asked_text, entered_text, job_text, block_text, program_text}
+use Rattle.program.specs.Program.{text_or, plan_text, planned_text, asked_text, entered_text, new_table, job_text, block_text, program_text}
 
 -- A refusal, or the text.
 pub or_refused : (n : ℕ) (text : List ℕ) → (n ≡ 0 → ⊥) → refused_text n ≡ text_or n text
@@ -68,24 +67,25 @@ plan_yes : (n length value : ℕ) {l v : ℕ} → Written l v ≡ planned_with n
 plan_yes zero length value e = refl
 plan_yes (suc j) length value e = let z : ◌≡◌ {A = ℕ} 0 1 = cc in absurd (omega arith)
 
-module _ (job : Job) (t : List ℕ) {x y room : ℕ} (f : x ≡ job.width) (g : y ≡ job.height) (m : room ≡ plan_room) where
-  whole_plan : planned job t x y room ≡ planned job t job.width job.height plan_room
-  whole_plan = λ i. planned job t (f i) (g i) (m i)
+module _ (job : Job) (t : List ℕ) {x y : ℕ} (f : x ≡ job.width) (g : y ≡ job.height) where
+  whole_plan : {room : ℕ} → room ≡ plan_room → planned job t x y room ≡ planned job t job.width job.height plan_room
+  whole_plan m = λ i. planned job t (f i) (g i) (m i)
 
-  pub plan_refused_text : {k : ℕ} (value worked : ℕ) → NoPlan k ≡ planned job t x y room → refused_text k ≡ planned_text job t value worked
+  pub plan_refused_text : {room k : ℕ} (value worked : ℕ) → NoPlan k ≡ planned job t x y room → room ≡ plan_room
+      → refused_text k ≡ planned_text job t value worked
   unfolding planned planned_text
-  plan_refused_text value worked h =
+  plan_refused_text value worked h m =
       let a = job.width in
       let b = job.height in
-      plan_no (plan_refused job t a b plan_room) (length (plan_file job t a b)) (cell_of a t a b) _ (plan_text job t value worked) (h ∙ whole_plan)
+      plan_no (plan_refused job t a b plan_room) (length (plan_file job t a b)) (cell_of a t a b) _ (plan_text job t value worked) (h ∙ whole_plan m)
 
-  module _ {l v : ℕ} (h : Written l v ≡ planned job t x y room) where
+  module _ {l v room : ℕ} (h : Written l v ≡ planned job t x y room) (m : room ≡ plan_room) where
     granted : 0 ≡ plan_refused job t job.width job.height plan_room
     unfolding planned
     granted =
         let a = job.width in
         let b = job.height in
-        plan_yes (plan_refused job t a b plan_room) (length (plan_file job t a b)) (cell_of a t a b) (h ∙ whole_plan)
+        plan_yes (plan_refused job t a b plan_room) (length (plan_file job t a b)) (cell_of a t a b) (h ∙ whole_plan m)
 
     ready : Ready job t job.width job.height (replicate plan_room 0)
     ready = plan_with job t job.width job.height plan_room (sym granted)
@@ -155,15 +155,20 @@ module _ (job : Job) (t : List ℕ) {x y : ℕ} (f : x ≡ job.width) (g : y ≡
   unfolding asked asked_text asked_cells
   ask_answered_text h k = ask_yes ask_number value worked job table t (h ∙ whole_ask) (k ∙ (λ i. asked_cells job t (f i) (g i)))
 
--- The job as it was entered.
-module _ (answer : Changed) (t : List ℕ) where
-  pub entered_refused_text : (refusal : Refusal) → number refusal ≡ answer.refusal → entered_text answer t ≡ refused_text (number refusal)
-  unfolding entered_text
-  entered_refused_text refusal e = refusal_text refusal (asked_text answer.job t) e
+-- The job as it was entered on a new table.
+module _ (from : Job) {t : List ℕ} where
+  pub entered_refused_text : (refusal : Refusal) → number refusal ≡ (entered from t).answer.refusal → t ≡ new_table
+      → job_text from ≡ refused_text (number refusal)
+  unfolding job_text entered_text
+  entered_refused_text refusal e table =
+      ap (λ (l : List ℕ). entered_text (entered from l).answer (entered from l).cells) (sym table)
+      ∙ refusal_text refusal (asked_text (entered from t).answer.job (entered from t).cells) e
 
-  pub entered_text_lem : {job : Job} {cells : List ℕ} → AnswersAs (Ok job) answer → cells ≡ t → asked_text job cells ≡ entered_text answer t
-  unfolding entered_text text_or
-  entered_text_lem e f = λ i. text_or (e i).refusal (asked_text (e i).job (f i))
+  pub entered_text_lem : {job : Job} {cells : List ℕ} → AnswersAs (Ok job) (entered from t).answer → cells ≡ (entered from t).cells → t ≡ new_table
+      → asked_text job cells ≡ job_text from
+  unfolding job_text entered_text text_or
+  entered_text_lem e f table =
+      (λ i. text_or (e i).refusal (asked_text (e i).job (f i))) ∙ ap (λ (l : List ℕ). entered_text (entered from l).answer (entered from l).cells) table
 
 -- The block.
 pub block_none : (s : List ℕ) → from_block s ≡ None → program_text s ≡ refused_text bad_job

@@ -1,16 +1,15 @@
-use Rattle.std.proofs.Common.{ℕ, List, arith, sym, ap, ◌∙◌, subst}
-use Rattle.printing.specs.Inner.{Printed}
-use Rattle.listing.specs.Line.{refused_text}
+use Rattle.std.proofs.Common.{arith}
+use Rattle.printing.specs.Inner.{Writes}
 use Rattle.program.specs.Program.{program_text}
-use Rattle.printing.proofs.Printed.{printed_as}
-use Rattle.program.proofs.Promise.{kept}
+use Rattle.program.proofs.Promise.{kept, refused_after}
 use Rattle.program.proofs.run.Goals as goal
+use Rattle.program.proofs.run.Goals.{in-Err, in_default}
 
 -- `run` meets its contract: the text has room.
-pub returns-in-Ok : goal.returns-in-Ok
-returns-in-Ok c = kept _ (omega arith) c.in-Ok.ensures
-
-pub returns-in-Err : goal.returns-in-Err
-returns-in-Err c =
-    let text = printed_as (ap refused_text c.from.ensures ∙ sym c.in-Err.ensures.0) c.put_refused.ensures in
-    kept _ (omega arith) (subst (λ (o : List ℕ). Printed o 0 (program_text c.args.block.now) c.put_refused.result c.put_refused.new.o) c.in-Err.ensures.1 text)
+pub returns : goal.returns
+returns c =
+    let printed : Writes c.new-out.result (program_text c.args.block.now) c.match-print_sheet.out = elim c.match-print_sheet.branch [
+      | in-Err w ↦ rw w.out-is (refused_after w.in-Err.ensures w.from.ensures w.put_refused.ensures)
+      | in_default w ↦ rw w.out-is w.in_default.ensures
+    ] in
+    kept _ c.new-out.ensures.bytes c.new-out.ensures.at_start (omega arith) printed

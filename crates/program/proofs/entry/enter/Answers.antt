@@ -1,7 +1,6 @@
-use Rattle.std.proofs.Common.{◌≡◌, ◌∙◌, ◌+◌, ap, arith, length-take, get_or-take}
-use Rattle.job.specs.Job.{no_record}
+use Rattle.std.proofs.Common.{◌≡◌, ◌∙◌, ◌+◌, ap, arith}
 use Rattle.program.specs.Entry.{begun, entered}
-use Rattle.program.proofs.Entered.{entered_stopped, begun_more, begun_none}
+use Rattle.program.proofs.Entered.{entered_stopped, begun_more, begun_none, piece_read}
 use Rattle.program.proofs.entry.enter.Goals as goal
 
 -- `enter` meets its contract.
@@ -19,12 +18,12 @@ loop-piece-init c =
 
 pub loop-piece-preserved : goal.loop-piece-preserved
 loop-piece-preserved c =
-    let more = begun_more c.args.from.now c.args.cells.now c.loop-piece.piece-index c.loop-piece.invariant.0 c.loop-piece.invariant.1 (get_or-take c.from-3.result c.args.from.now.pieces c.loop-piece.piece-index no_record (omega (arith, length-take c.from-3.result c.args.from.now.pieces))) in
+    let more = begun_more c.args.from.now c.args.cells.now c.loop-piece.piece-index c.loop-piece.invariant.0 c.loop-piece.invariant.1 (piece_read c.args.from.now c.loop-piece.piece-index c.pieces-piece-items.ensures.records c.loop-piece-test.true) in
     (c.in_ok-job-2.ensures.0 ∙ more.0, c.in_ok-job-2.ensures.1 ∙ more.1)
 
 pub returns-in_err-job-2 : goal.returns-in_err-job-2
 returns-in_err-job-2 c =
-    let more = begun_more c.args.from.now c.args.cells.now c.loop-piece.piece-index c.loop-piece.invariant.0 c.loop-piece.invariant.1 (get_or-take c.from-3.result c.args.from.now.pieces c.loop-piece.piece-index no_record (omega (arith, length-take c.from-3.result c.args.from.now.pieces))) in
+    let more = begun_more c.args.from.now c.args.cells.now c.loop-piece.piece-index c.loop-piece.invariant.0 c.loop-piece.invariant.1 (piece_read c.args.from.now c.loop-piece.piece-index c.pieces-piece-items.ensures.records c.loop-piece-test.true) in
     let given = c.in_err-job-2.ensures in
     let both = entered_stopped _ _ (c.loop-piece.piece-index + 1) _ _ (omega arith) (ap (λ k. k.refusal) (given.0 ∙ more.0)) (given.1 ∙ more.1) c.from_residual-in_err-job-2.ensures.1 in
     record { answer = both.0; cells_after = both.1 }
@@ -32,5 +31,5 @@ returns-in_err-job-2 c =
 pub returns : goal.returns
 unfolding entered
 returns c =
-    let all : c.loop-piece.piece-index ≡ c.args.from.now.count = omega (arith, length-take c.from-3.result c.args.from.now.pieces) in
+    let all : c.loop-piece.piece-index ≡ c.args.from.now.count = omega (arith, c.pieces-piece-items.ensures.many) in
     record { answer = c.loop-piece.invariant.0 ∙ ap (λ k. (begun c.args.from.now c.args.cells.now k).answer) all; cells_after = c.loop-piece.invariant.1 ∙ ap (λ k. (begun c.args.from.now c.args.cells.now k).cells) all }

@@ -7,7 +7,6 @@ ghost use Rattle.fields.specs.Number.{number2_of, number4_of, bytes2, bytes4};
 ghost use Rattle.fields.specs.Sum.{sum_step, running_sum, sum_of};
 ghost use Rattle.fields.specs.Inner.{bytes2-length, bytes4-length, number2_bytes, number4_bytes};
 
-pub mod cast;
 pub mod format;
 
 // A number in a plan file (rule 8.1).

@@ -163,8 +163,7 @@ pub fn khon_remove(job: Job, cells: &mut [u32], number: u32) -> KhonChanged
 fn ask_block(block: &[u8], cells: &mut [u32], x: u32, y: u32) -> Result<Answer, Refusal>
     ensures { AsksBlock block.now cells.old x y (asked_from result) cells.new }
 {
-    let job = from_block(block).ok_or(Refusal::BadJob)?;
-    question::ask(&job, cells, x, y)
+    question::ask(&from_block(block).ok_or(Refusal::BadJob)?, cells, x, y)
 }
 
 pub fn khon_ask(block: &[u8], cells: &mut [u32], x: u32, y: u32) -> KhonAsked
@@ -183,8 +182,13 @@ fn plan_block(
 ) -> Result<Written, Refusal>
     ensures { PlansBlock block.now cells.now x y file.old (planned_from result) file.new }
 {
-    let job = from_block(block).ok_or(Refusal::BadJob)?;
-    plan::plan(&job, cells, x, y, file)
+    plan::plan(
+        &from_block(block).ok_or(Refusal::BadJob)?,
+        cells,
+        x,
+        y,
+        file,
+    )
 }
 
 pub fn khon_plan(block: &[u8], cells: &[u32], x: u32, y: u32, file: &mut [u8]) -> KhonPlanned

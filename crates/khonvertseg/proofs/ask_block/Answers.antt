@@ -5,8 +5,8 @@ use Rattle.khonvertseg.specs.Calls.{WithBlock}
 use Rattle.khonvertseg.proofs.ask_block.Goals as goal
 
 -- `ask_block` meets its contract.
-pub returns-in_err-job : goal.returns-in_err-job
-returns-in_err-job c = grind (arith, from_block_none, WithBlock.shapeless)
+pub returns-in_err-ok_or : goal.returns-in_err-ok_or
+returns-in_err-ok_or c = grind (arith, from_block_none, WithBlock.shapeless)
 
 pub returns : goal.returns
 returns c =

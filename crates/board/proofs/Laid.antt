@@ -1,7 +1,7 @@
 -- What stands on the board of a job.
 use Prim.Native.Nat.{ℕ, ◌-◌, ◌≤◌, ◌<◌}
 use mathlib.Core.HLevel.{is_prop→PathP}
-use mathlib.Core.Path.{◌≡◌, refl, sym, ◌∙◌}
+use mathlib.Core.Path.{◌≡◌, refl, sym, ap, ◌∙◌}
 use mathlib.Core.List.{List, ◌++◌}
 use native.Mathlib.Bridge.{le_prop}
 use native.Mathlib.Omega.{arith}
@@ -15,7 +15,7 @@ use Rattle.std.proofs.lemmas.List.{length-take, get_or-take}
 use Rattle.job.specs.declared.Piece.{Piece as Record}
 use Rattle.job.specs.Job.{no_record}
 use Rattle.board.specs.declared.Board.{Board}
-use Rattle.board.specs.Inner.{entries, width_on, height_on, count_on, record_at, pieces_board}
+use Rattle.board.specs.Inner.{entries, width_on, height_on, count_on, records_on, record_at, pieces_board}
 
 -- Two boards with the same fields are one.
 pub same_board : (b d : Board) → b.width ≡ d.width → b.height ≡ d.height → b.count ≡ d.count → b.pieces ≡ d.pieces → b.across ≡ d.across → b.up ≡ d.up → b ≡ d
@@ -34,6 +34,12 @@ same_board b d width height count pieces across up =
 pub first_record : (n : ℕ) (records : List Record) (k : ℕ) → k < length (take n records)
     → get_or (take n records) k no_record ≡ get_or records k no_record
 first_record n records k h = get_or-take n records k no_record (omega (arith, h, length-take n records))
+
+-- What stands at an index of a board's pieces.
+pub record_on : (board : Board) (k : ℕ) {first : List Record} → first ≡ records_on board → k < length first → get_or first k no_record ≡ record_at board k
+record_on board k {first} e h =
+    ap (λ (l : List Record). get_or l k no_record) e
+    ∙ first_record (count_on board) board.pieces k (omega (arith, h, ap (λ (l : List Record). length l) e))
 
 -- Blank records behind others change nothing.
 pub blank_behind : (first : List Record) (m k : ℕ) → get_or (first ++ replicate m no_record) k no_record ≡ get_or first k no_record

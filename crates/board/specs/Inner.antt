@@ -30,7 +30,10 @@ height_on board = board.height
 abbrev pub count_on : Board → ℕ
 count_on board = board.count
 
--- The record at index k.
+-- Its pieces' records, and the one at index k.
+abbrev pub records_on : Board → List Record
+records_on board = take (count_on board) board.pieces
+
 abbrev pub record_at : Board → ℕ → Record
 record_at board k = get_or board.pieces k no_record
 

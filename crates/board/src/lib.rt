@@ -32,10 +32,10 @@ pub struct Board {
 }
 
 impl Board {
-    ghost use Rattle.std.specs.Prelude.{◌≡◌, ◌<◌};
+    ghost use Rattle.std.specs.Prelude.{◌≡◌, ◌<◌, length};
     ghost use Rattle.cutting.specs.Limits.{side_max, pieces_max};
     ghost use Rattle.job.specs.Range.{JobInRange};
-    ghost use Rattle.board.specs.Inner.{entries, width_on, height_on, count_on, width_at, height_at, value_at, marked_at, pieces_board, with_points, board_of};
+    ghost use Rattle.board.specs.Inner.{entries, width_on, height_on, count_on, records_on, width_at, height_at, value_at, marked_at, pieces_board, with_points, board_of};
 
     // The job's sides and pieces, without marks: all that reading a plan file needs.
     pub fn of_pieces(job: &Job) -> Board
@@ -69,9 +69,8 @@ impl Board {
         requires { (width_on self.old ≤ side_max) × (height_on self.old ≤ side_max) }
         ensures { self.new ≡ with_points self.old }
     {
-        let pieces = &self.pieces[..self.count()];
-        let across = marks_of(pieces, |piece| piece.width, self.width());
-        let up = marks_of(pieces, |piece| piece.height, self.height());
+        let across = marks_of(self.pieces(), |piece| piece.width, self.width());
+        let up = marks_of(self.pieces(), |piece| piece.height, self.height());
         self.across = across;
         self.up = up;
     }
@@ -92,6 +91,14 @@ impl Board {
         ensures { result ≡ count_on self.now }
     {
         usize::from(self.count)
+    }
+
+    // Its pieces: the first n records.
+    pub fn pieces(&self) -> &[Piece]
+        ensures records { result.now ≡ records_on self.now }
+        ensures many { length result.now ≡ count_on self.now }
+    {
+        &self.pieces[..self.count()]
     }
 
     pub fn piece(&self, k: usize) -> Piece

@@ -140,8 +140,10 @@ Found a t x w found =
     MatchOption found ((k : ℕ) → 1 ≤ k → k < x + 1 → eqb (cell_of a t k w) empty ≡ false)
     (λ u. (1 ≤ u) × (u < x + 1) × Unit {0} × ((k : ℕ) → 1 ≤ k → k < u → eqb (cell_of a t k w) empty ≡ false))
 
-pub found_before : (a : ℕ) (t : List ℕ) (x w : ℕ) (found : Option ℕ) {from : ℕ} → Found a t x w found → from ≡ unwrap_or found (x + 1) → FullBefore a t x w from
-found_before a t x w None f e = record { least = omega arith; most = omega arith; full = λ k p h. says_false (says_eq (cell_of a t k w) empty) (f k p (omega arith)) }
+pub found_before : (a : ℕ) (t : List ℕ) (x w : ℕ) (found : Option ℕ) {from : ℕ} → Found a t x w found → from ≡ unwrap_or found (x + 1)
+    → FullBefore a t x w from
+found_before a t x w None f e =
+    record { least = omega arith; most = omega arith; full = λ k p h. says_false (says_eq (cell_of a t k w) empty) (f k p (omega arith)) }
 found_before a t x w (Some u) f e =
     record { least = omega arith; most = omega arith; full = λ k p h. says_false (says_eq (cell_of a t k w) empty) (f.3 k p (omega arith)) }
 

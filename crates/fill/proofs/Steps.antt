@@ -1,17 +1,13 @@
 -- One law a step for the loops that work out a cell: none, one more, end.
-use Prim.Native.Nat.{ℕ, suc, ◌+◌, ◌/◌, ◌≤◌, ◌<◌, max}
+use Prim.Native.Nat.{ℕ, suc, ◌+◌, ◌/◌, max}
 use mathlib.Core.Bool.{Bool, true, false, cond}
-use mathlib.Core.List.{List}
-use mathlib.Core.Path.{◌≡◌, refl, sym, ap, ap₂, ◌∙◌, subst}
+use mathlib.Core.Path.{◌≡◌, sym, ap, ap₂, ◌∙◌}
 use native.Mathlib.Omega.{arith}
 use Rattle.laws.specs.Inner.{best_below}
 use Rattle.laws.proofs.Below.{best_below_none, best_below_more}
-use lib.ListN.{set}
 use Rattle.cutting.specs.Dissection.{rest}
-use Rattle.cutting.specs.Piece.{Inside}
-use Rattle.cells.specs.Cells.{cell_of, place}
-use Rattle.cells.specs.Inner.{Holds, fits}
-use Rattle.fill.specs.Inner.{fitting_value, line_at, line_value, RowLines}
+use Rattle.cells.specs.Inner.{fits}
+use Rattle.fill.specs.Inner.{fitting_value, line_at, line_value}
 
 module _ (width height value : ℕ → ℕ) where
   pub fitting_none : (u w : ℕ) → 0 ≡ fitting_value width height value 0 u w
@@ -54,18 +50,3 @@ module _ (marked : ℕ → Bool) (part : ℕ → ℕ) (x : ℕ) where
 -- The number of a line's far part, at the place that the code worked out.
 pub far_part_lem : (part : ℕ → ℕ) {r c v : ℕ} → r ≡ c → v ≡ part r → v ≡ part c
 far_part_lem part e h = h ∙ ap part e
-
-pub line_fits : (a : ℕ) (t : List ℕ) (w x c : ℕ) {m n : ℕ} → RowLines a t w x → 1 ≤ c → c < x → m ≡ cell_of a t c w → n ≡ cell_of a t (rest x c) w
-    → m + n < 4_294_967_296
-line_fits a t w x c s p h e f =
-    omega (arith, s.adds c (rest x c) (record { least = p; most = omega arith; leaves = refl }))
-
--- The look-up, with the width that the code read.
-pub there : {a b : ℕ} (t : List ℕ) (x y : ℕ) → a ≡ b → Holds b y t × Inside x y b y → Holds a y t × Inside x y a y
-there t x y e h = subst (λ (a : ℕ). Holds a y t × Inside x y a y) (sym e) h
-
-pub read_there : {a b v : ℕ} (t : List ℕ) (x y : ℕ) → a ≡ b → v ≡ cell_of a t x y → v ≡ cell_of b t x y
-read_there t x y e h = h ∙ ap (λ (a : ℕ). cell_of a t x y) e
-
-pub stored_there : {a b : ℕ} (t : List ℕ) {t' : List ℕ} (x y v : ℕ) → a ≡ b → t' ≡ set t (place a x y) v → t' ≡ set t (place b x y) v
-stored_there t x y v e h = h ∙ ap (λ (a : ℕ). set t (place a x y) v) e

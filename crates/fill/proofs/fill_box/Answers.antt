@@ -24,9 +24,3 @@ loop-w-preserved c =
       box_more _ _ _ _ _ _ ready _ _ (omega arith) (omega arith) inv.0 c.fill_row-worked.ensures.after,
       box_count _ _ _ _ _ _ ready _ _ (omega arith) (omega arith) inv.0 inv.1 c.fill_row-worked.ensures.worked,
     )
-
-pub returns : goal.returns
-returns c =
-    let inv = c.loop-w.invariant in
-    let end : c.loop-w.w - 1 ≡ c.args.y = omega arith in
-    rw (← end) (record { worked = inv.1; after = inv.0 })

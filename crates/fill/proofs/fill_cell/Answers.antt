@@ -1,6 +1,6 @@
 use mathlib.Core.Bool.{false}
 use Rattle.board.specs.Inner.{marked_at}
-use Rattle.fill.proofs.Rounds.{around_lines, cell_kept, cell_worked}
+use Rattle.fill.proofs.Rounds.{cell_kept, cell_worked}
 use Rattle.fill.proofs.fill_cell.Goals as goal
 
 -- `fill_cell`: a filled cell is left, an empty one gets the larger of its floor and the lines across.
@@ -8,9 +8,6 @@ pub returns-then-cell : goal.returns-then-cell
 returns-then-cell c =
     let both = cell_kept c.args.floor (marked_at c.args.board.now false) _ _ _ _ c.cell.ensures c.if-cell.true in
     record { worked = both.0; after = both.1 }
-
-pub line_value-line-requires : goal.line_value-line-requires
-line_value-line-requires c = around_lines _ _ _ _ c.requires
 
 pub returns : goal.returns
 returns c =

@@ -1,10 +1,7 @@
 use Rattle.std.proofs.Common.{◌+◌, ◌-◌, ◌≡◌, arith}
 use Rattle.board.specs.Inner.{rows_on}
-use Rattle.fill.proofs.Rounds.{entered, entered_count, lines_up, row_around, row_more, row_count, row_within}
+use Rattle.fill.proofs.Rounds.{entered, entered_count, row_around, row_more, row_count, row_within}
 use Rattle.fill.proofs.fill_columns.Goals as goal
-
-pub floor_of-floor-requires : goal.floor_of-floor-requires
-floor_of-floor-requires c = lines_up _ _ _ _ _ _ _ c.requires.row_ready c.requires.full_before
 
 pub loop-u-init : goal.loop-u-init
 loop-u-init c =
@@ -31,9 +28,3 @@ loop-u-preserved c =
       row_more _ _ _ _ _ _ ready _ _ (omega arith) (omega arith) inv.0 floor c.fill_cell-worked.ensures.after,
       row_count _ _ _ _ _ _ ready _ _ (omega arith) (omega arith) inv.0 inv.1 c.fill_cell-worked.ensures.worked,
     )
-
-pub returns : goal.returns
-returns c =
-    let inv = c.loop-u.invariant in
-    let end : c.loop-u.u - 1 ≡ c.args.x = omega arith in
-    rw (← end) (record { worked = inv.1; after = inv.0 })

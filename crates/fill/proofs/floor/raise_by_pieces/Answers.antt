@@ -1,5 +1,4 @@
-use Rattle.std.proofs.Common.{arith}
-use Rattle.fill.proofs.Floors.{pieces_none, pieces_more, pieces_end}
+use Rattle.fill.proofs.Floors.{pieces_none, pieces_more}
 use Rattle.fill.proofs.floor.raise_by_pieces.Goals as goal
 
 pub loop-k-init : goal.loop-k-init
@@ -9,6 +8,3 @@ pub loop-k-preserved : goal.loop-k-preserved
 loop-k-preserved c =
     let piece = c.piece.ensures in
     pieces_more _ _ _ _ _ _ _ c.loop-k.invariant piece.width piece.height piece.value c.raise_by_piece.ensures
-
-pub returns : goal.returns
-returns c = pieces_end _ _ _ _ _ _ c.loop-k.invariant (omega arith)

@@ -1,16 +1,9 @@
 use Prim.Native.Nat.{ℕ}
-use native.Mathlib.Omega.{arith}
 use Rattle.fill.specs.Inner.{cell_on}
-use Rattle.fill.proofs.Steps.{line_marked, line_unmarked, line_fits, far_part_lem}
+use Rattle.fill.proofs.Steps.{line_marked, line_unmarked, far_part_lem}
 use Rattle.fill.proofs.value.line_at.Goals as goal
 
 -- `line_at`: the two parts' numbers where the line is marked.
-pub overflow_add-both : goal.overflow_add-both
-overflow_add-both c =
-    let part : ℕ → ℕ = λ k. cell_on c.args.board.now c.args.t.now k c.args.w in
-    let far = far_part_lem part c.rest.ensures c.cell-2.ensures in
-    record { fits = line_fits _ _ _ _ _ c.requires.row_lines (omega arith) (omega arith) c.cell.ensures far }
-
 pub returns-then-marked : goal.returns-then-marked
 returns-then-marked c =
     let part : ℕ → ℕ = λ k. cell_on c.args.board.now c.args.t.now k c.args.w in

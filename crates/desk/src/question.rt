@@ -21,6 +21,7 @@ pub struct Answer {
 }
 
 // Fills the box x by y: the board is laid out once for the whole box, and not at all where no cell is empty.
+#[tactic(auto, using(crate::proofs::Exactly::usable_box))]
 fn fill_for(job: &Job, t: &mut [u32], x: usize, y: usize) -> u32
     requires usable { Usable job.now t.old }
     requires inside { Inside x y job.now.width job.now.height }

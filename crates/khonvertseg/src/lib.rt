@@ -18,7 +18,7 @@ use refusals::Refusal;
 
 // khon_changed
 #[repr(C)]
-#[derive(Clone, Copy)]
+#[derive(Clone, Copy, Debug, Default, PartialEq, Eq)]
 pub struct KhonChanged {
     pub refusal: u32,
     pub job: Job,

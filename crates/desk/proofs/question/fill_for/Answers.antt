@@ -1,13 +1,7 @@
-use Rattle.desk.proofs.Exactly.{usable_box}
 use Rattle.desk.proofs.Holding.{box_ready, box_filled, box_still}
 use Rattle.desk.proofs.question.fill_for.Goals as goal
 
 -- `fill_for`: the board that is laid out is the job's; a full box needs none.
-pub has_empty-requires : goal.has_empty-requires
-has_empty-requires c =
-    let both = usable_box _ _ _ _ c.requires.usable c.requires.inside c.from.ensures in
-    record { holds = both.0; within = both.1 }
-
 pub returns-then-not-has_empty : goal.returns-then-not-has_empty
 returns-then-not-has_empty c =
     let both = box_still c.args.job.now _ _ _ c.from.ensures c.has_empty.ensures c.if-not-has_empty.true in

@@ -5,7 +5,7 @@ use Rattle.fill.proofs.floor.floor_of.Goals as goal
 -- `floor_of`: the pieces, then the lines.
 pub raise_by_pieces-requires : goal.raise_by_pieces-requires
 raise_by_pieces-requires c = record {
-  bounds = omega arith;
+  bound = omega arith;
   columns = zeros _ _ 241;
 }
 

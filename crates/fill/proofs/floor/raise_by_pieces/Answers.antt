@@ -1,5 +1,4 @@
-use Rattle.std.proofs.Common.{◌≡◌, arith}
-use Rattle.board.specs.Inner.{count_on}
+use native.Mathlib.Omega.{arith}
 use Rattle.fill.proofs.Floors.{pieces_none, pieces_more}
 use Rattle.fill.proofs.floor.raise_by_pieces.Goals as goal
 
@@ -8,8 +7,3 @@ loop-piece-init c = pieces_none c.args.board.now _ _ _ _ c.requires.columns
 
 pub loop-piece-preserved : goal.loop-piece-preserved
 loop-piece-preserved c = pieces_more c.args.board.now _ _ _ _ c.pieces-piece-items.ensures.records (omega arith) c.loop-piece.invariant c.raise_by_piece.ensures
-
-pub returns : goal.returns
-returns c =
-    let end : c.loop-piece.piece-index ≡ count_on c.args.board.now = omega (arith, c.pieces-piece-items.ensures.many) in
-    rw end at c.loop-piece.invariant

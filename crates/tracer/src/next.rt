@@ -44,7 +44,8 @@ fn ruled(table: &Table, width: usize, height: usize) -> Option<Step>
     Some(cut_out(table, width, height, fitting))
 }
 
-// None where rule 6.6 strikes.
+// None where rule 6.6 strikes. Inlined: a call puts its answer into memory, which costs a step 8 instructions.
+#[inline(always)]
 #[tactic(auto, unfolding(crate::specs::Inner::step_in, board::specs::Inner::rows_on))]
 pub fn next_step(table: &Table, width: usize, height: usize, wanted: Wanted) -> Option<Step>
     requires { Traceable table.now.board.now (part_of width height wanted) }

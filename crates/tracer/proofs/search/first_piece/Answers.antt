@@ -1,6 +1,6 @@
 use Rattle.std.proofs.Common.{◌≡◌, ◌∙◌, rules, true, arith}
 use Rattle.board.specs.declared.Board.{Board}
-use Rattle.board.specs.Inner.{rows_on, width_at, height_at, value_at, record_at}
+use Rattle.board.specs.Inner.{rows_on, width_at, height_at, value_at}
 use Rattle.board.proofs.Laid.{record_on}
 use Rattle.tracer.specs.Inner.{suits}
 use Rattle.tracer.proofs.Found.{piece_found}

@@ -1,10 +1,9 @@
 -- What stands on the board of a job.
 use Prim.Native.Nat.{ℕ, ◌-◌, ◌≤◌, ◌<◌}
-use mathlib.Core.HLevel.{is_prop→PathP}
 use mathlib.Core.Path.{◌≡◌, refl, sym, ap, ◌∙◌}
 use mathlib.Core.List.{List, ◌++◌}
-use native.Mathlib.Bridge.{le_prop}
 use native.Mathlib.Omega.{arith}
+use Rattle.std.proofs.Math.Nat.{min-le_right}
 use lib.ListN.{length, take, get_or, replicate, length-replicate, get_or-replicate, get_or-append, get_or-eq_default}
 use lib.Seq.{get_or-append_right}
 use mathlib.Core.Logic.{⊎_elim}
@@ -27,8 +26,11 @@ same_board b d width height count pieces across up =
       pieces = pieces i;
       across = across i;
       up = up i;
-      few = is_prop→PathP (λ j. count j ≤ entries) (λ j. le_prop) b.few d.few i;
     }
+
+-- A board has room for its pieces.
+pub count_few : (board : Board) → count_on board ≤ entries
+count_few board = min-le_right board.count entries
 
 -- What stands at an index of the first n records.
 pub first_record : (n : ℕ) (records : List Record) (k : ℕ) → k < length (take n records)

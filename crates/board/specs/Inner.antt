@@ -1,6 +1,5 @@
 -- The board as it computes; nobody has to believe it: `board_holds` says that it holds the job's pieces and the points of P and Q.
 use Rattle.std.specs.Prelude.{ℕ, zero, suc, ◌+◌, ◌-◌, ◌*◌, ◌<◌, ◌≤◌, min, Bool, true, false, cond, ◌&&◌, ◌||◌, ◌≡◌, List, [], ◌∷◌, ◌++◌, leb, ltb, eqb, length, get_or, take, replicate}
-use Rattle.std.proofs.Math.Nat.{min-le_right}
 use Rattle.laws.specs.Inner.{any_below, Says}
 use Rattle.laws.specs.ByIndex.{by_index}
 use Rattle.cutting.specs.Limits.{side_max}
@@ -27,8 +26,9 @@ width_on board = board.width
 abbrev pub height_on : Board → ℕ
 height_on board = board.height
 
+-- There are no more than it has room for.
 abbrev pub count_on : Board → ℕ
-count_on board = board.count
+count_on board = min board.count entries
 
 -- Its pieces' records, and the one at index k.
 abbrev pub records_on : Board → List Record
@@ -155,17 +155,16 @@ leads made step held c = any_below (λ j. leb (tried_from (step j)) c && made (c
 abbrev pub no_marks : List Bool
 no_marks = replicate mark_count false
 
--- With the sides and the pieces: all that reading a plan file needs. A job has fewer pieces than there are entries, so `min` cuts none.
+-- With the sides and the pieces: all that reading a plan file needs.
 unfoldable pub pieces_board : Job → Board
 pieces_board job =
     record {
       width = job.width;
       height = job.height;
-      count = min job.count entries;
+      count = job.count;
       pieces = take job.count job.pieces ++ replicate (entries - job.count) no_record;
       across = no_marks;
       up = no_marks;
-      few = min-le_right job.count entries;
     }
 
 -- With the marks of P and Q, found from the entries.
@@ -175,6 +174,13 @@ with_points board =
       across = marks_of (width_at board) (count_on board) (width_on board);
       up = marks_of (height_at board) (count_on board) (height_on board);
     }
+
+-- No mark is set yet, and the sides are those of a sheet.
+pub record Unmarked (board : Board) : Type 0 where
+  pub wide : width_on board ≤ side_max
+  pub high : height_on board ≤ side_max
+  pub none_across : board.across ≡ no_marks
+  pub none_up : board.up ≡ no_marks
 
 -- All that the engine knows of a job.
 unfoldable pub board_of : Job → Board

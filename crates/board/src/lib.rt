@@ -2,11 +2,8 @@
 // points.rt: the marks of P and Q; line.rt: what a line leaves.
 #![tactic(auto)]
 
-ghost use Rattle.std.specs.Prelude.{◌≤◌};
-ghost use Rattle.board.specs.declared.TheConstants.{ENTRIES};
-
 use job::{Job, Piece};
-use points::marks_of;
+use points::mark;
 
 pub mod line;
 mod points;
@@ -25,17 +22,16 @@ pub struct Board {
     width: u16,
     height: u16,
     count: u16,
+    // The first n, and blank ones behind: fixed memory.
     pieces: [Piece; ENTRIES],
     across: Marks,
     up: Marks,
-    pub ghost few: { count ≤ ENTRIES },
 }
 
 impl Board {
-    ghost use Rattle.std.specs.Prelude.{◌≡◌, ◌<◌, length};
+    ghost use Rattle.std.specs.Prelude.{◌≡◌, ◌<◌, ◌≤◌, length};
     ghost use Rattle.cutting.specs.Limits.{side_max, pieces_max};
-    ghost use Rattle.job.specs.Range.{JobInRange};
-    ghost use Rattle.board.specs.Inner.{entries, width_on, height_on, count_on, records_on, width_at, height_at, value_at, marked_at, pieces_board, with_points, board_of};
+    ghost use Rattle.board.specs.Inner.{entries, width_on, height_on, count_on, records_on, width_at, height_at, value_at, marked_at, pieces_board, Unmarked, with_points};
 
     // The job's sides and pieces, without marks: all that reading a plan file needs.
     pub fn of_pieces(job: &Job) -> Board
@@ -54,25 +50,26 @@ impl Board {
         }
     }
 
-    // The whole board of a job: its pieces, and the marks of P from their widths and of Q from their heights.
-    pub fn of(job: &Job) -> Board
-        requires { JobInRange job.now }
-        ensures { result ≡ board_of job.now }
-    {
-        let mut board = Board::of_pieces(job);
-        board.mark();
-        board
-    }
-
-    // Widths and heights are one code, which gets the measure as a closure.
-    fn mark(&mut self)
-        requires { (width_on self.old ≤ side_max) × (height_on self.old ≤ side_max) }
+    // Marks P from the widths and Q from the heights, where the marks stand: none is moved or copied (rule 3.6).
+    pub fn set_points(&mut self)
+        requires { Unmarked self.old }
         ensures { self.new ≡ with_points self.old }
     {
-        let across = marks_of(self.pieces(), |piece| piece.width, self.width());
-        let up = marks_of(self.pieces(), |piece| piece.height, self.height());
-        self.across = across;
-        self.up = up;
+        let n = self.count();
+        let width = self.width();
+        let height = self.height();
+        mark(
+            &mut self.across,
+            &self.pieces[..n],
+            |piece| piece.width,
+            width,
+        );
+        mark(
+            &mut self.up,
+            &self.pieces[..n],
+            |piece| piece.height,
+            height,
+        );
     }
 
     pub fn width(&self) -> usize
@@ -90,7 +87,7 @@ impl Board {
     pub fn count(&self) -> usize
         ensures { result ≡ count_on self.now }
     {
-        usize::from(self.count)
+        usize::from(self.count).min(ENTRIES)
     }
 
     // Its pieces: the first n records.

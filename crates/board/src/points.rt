@@ -2,7 +2,7 @@
 ghost use Rattle.std.specs.Prelude.{◌≡◌, ℕ, ◌+◌, ◌<◌, ◌≤◌, List, [], ◌∷◌, ◌++◌, length, take};
 ghost use Rattle.cutting.specs.Limits.{side_max};
 ghost use Rattle.board.specs.declared.TheConstants.{MARKS};
-ghost use Rattle.board.specs.Inner.{mark_at, step_at, Gives, size_marks, leads, Rising, marks_of};
+ghost use Rattle.board.specs.Inner.{mark_at, step_at, Gives, no_marks, size_marks, leads, Rising, marks_of};
 
 use crate::{MARKS, Marks};
 use job::Piece;
@@ -49,19 +49,18 @@ impl Steps {
 }
 
 // Marks the sizes themselves: each is a sum of one (rule 3.1). Those above the side are no points, and 0 is none (rule 3.3).
-fn size_marks<F: Fn(Piece) -> u16>(pieces: &[Piece], size: F, side: usize) -> Marks
+fn mark_sizes<F: Fn(Piece) -> u16>(marks: &mut Marks, pieces: &[Piece], size: F, side: usize)
+    requires blank { marks.old ≡ no_marks }
     requires within { side ≤ side_max }
     requires callable { F.IsAlwaysCallable size }
-    ensures { (of : ℕ → ℕ) → Gives (F.post size) pieces.now of → result ≡ size_marks of (length pieces.now) side }
+    ensures { (of : ℕ → ℕ) → Gives (F.post size) pieces.now of → marks.new ≡ size_marks of (length pieces.now) side }
 {
-    let mut marks = [false; MARKS];
     for piece in pieces {
         let own = usize::from(size(*piece));
         if 1 <= own && own <= side {
             marks[own] = true;
         }
     }
-    marks
 }
 
 // Whether one of the steps, which rise, leads to `c`: it is at most half of it, and what it leaves is marked.
@@ -84,19 +83,19 @@ fn led(marks: &Marks, steps: &[u16], c: usize) -> bool
 
 // Marks each number up to `side` that is a sum of one or more sizes, each as often as one likes (rules 3.1 and 3.2), from small to
 // large. A step is a size that no step before it leads to: whatever such a size would lead to, they do.
-pub(crate) fn marks_of<F: Fn(Piece) -> u16>(pieces: &[Piece], size: F, side: usize) -> Marks
+pub(crate) fn mark<F: Fn(Piece) -> u16>(marks: &mut Marks, pieces: &[Piece], size: F, side: usize)
+    requires blank { marks.old ≡ no_marks }
     requires within { side ≤ side_max }
     requires callable { F.IsAlwaysCallable size }
-    ensures { (of : ℕ → ℕ) → Gives (F.post size) pieces.now of → result ≡ marks_of of (length pieces.now) side }
+    ensures { (of : ℕ → ℕ) → Gives (F.post size) pieces.now of → marks.new ≡ marks_of of (length pieces.now) side }
 {
-    let mut marks = size_marks(pieces, size, side);
+    mark_sizes(marks, pieces, size, side);
     let mut steps = Steps::new();
     for last in 1..=side {
-        if led(&marks, steps.as_slice(), last) {
+        if led(marks, steps.as_slice(), last) {
             marks[last] = true;
         } else if marks[last] {
             steps.push(last as u16);
         }
     }
-    marks
 }

@@ -4,12 +4,12 @@ use mathlib.Core.Path.{◌≡◌, ◌∙◌}
 use lib.ListN.{length}
 use Rattle.board.specs.Inner.{size_marks}
 use Rattle.board.proofs.Marking.{sizes_none, sizes_set, sizes_skip}
-use Rattle.board.proofs.points.size_marks.Goals as goal
-use Rattle.board.proofs.points.size_marks.Goals.{then-own-ge1+then-own-side, else-own-ge1}
+use Rattle.board.proofs.points.mark_sizes.Goals as goal
+use Rattle.board.proofs.points.mark_sizes.Goals.{then-own-ge1+then-own-side, else-own-ge1}
 
--- `size_marks`: a size that is no number of the side leaves the marks.
+-- `mark_sizes`: a size that is no number of the side leaves the marks.
 pub loop-piece-init : goal.loop-piece-init
-loop-piece-init g c of gives = sizes_none of _ c.requires.within
+loop-piece-init g c of gives = c.requires.blank ∙ sizes_none of _ c.requires.within
 
 pub loop-piece-preserved : goal.loop-piece-preserved
 loop-piece-preserved g c of gives =

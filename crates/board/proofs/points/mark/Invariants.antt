@@ -2,9 +2,9 @@ use Prim.Native.Nat.{ℕ, ◌+◌, ◌≤◌}
 use lib.ListN.{length}
 use Rattle.board.specs.Inner.{Gives}
 use Rattle.board.proofs.Marking.{Ascending, PassBefore}
-use Rattle.board.proofs.points.marks_of.Given as goal
+use Rattle.board.proofs.points.mark.Given as goal
 
--- `marks_of`: the sizes, then the pass over the numbers up to the side.
+-- `mark`: the sizes, then the pass over the numbers up to the side.
 abbrev pub invariant-loop-last : goal.invariant-loop-last
 invariant-loop-last g l =
     (l.last ≤ l.side + 1) × Ascending l.last l.steps

@@ -4,12 +4,12 @@ use mathlib.Core.Path.{◌∙◌}
 use lib.ListN.{length}
 use Rattle.board.specs.Inner.{Gives}
 use Rattle.board.proofs.Marking.{Further, passing_start, passing_end, pass_on, ascending_none, ascending_same, ascending_more}
-use Rattle.board.proofs.points.marks_of.Goals as goal
-use Rattle.board.proofs.points.marks_of.Goals.{then-led, else-led+then-marks-last, else-led+else-marks-last}
+use Rattle.board.proofs.points.mark.Goals as goal
+use Rattle.board.proofs.points.mark.Goals.{then-led, else-led+then-marks-last, else-led+else-marks-last}
 
--- `marks_of`: a turn goes on where a step leads to the number, where it is a size, or where it is neither.
+-- `mark`: a turn goes on where a step leads to the number, where it is a size, or where it is neither.
 pub loop-last-init : goal.loop-last-init
-loop-last-init g c = rw c.new-steps.ensures (omega arith, ascending_none, λ of gives. passing_start (c.size_marks-marks.ensures of gives))
+loop-last-init g c = rw c.new-steps.ensures (omega arith, ascending_none, λ of gives. passing_start (c.mark_sizes.ensures of gives))
 
 pub loop-last-preserved : goal.loop-last-preserved
 loop-last-preserved g c =

@@ -9,49 +9,29 @@ use board::line::crossed;
 use fields::format::{HORIZONTAL, PIECE, SCRAP, VERTICAL};
 
 // `V` and c, `H` and d: a line through a side (rule 8.5).
+#[tactic(auto, unfolding(crate::specs::Inner::is_inside))]
 fn line_node(tall: bool, side: usize, number: u16) -> Option<Node>
     ensures { result ≡ line_node tall side number }
 {
-    let c = usize::from(number);
-    if c == 0 {
-        return None;
-    }
-    if c >= side {
-        return None;
-    }
-    Some(Node::Line(tall, number))
+    (1..side)
+        .contains(&usize::from(number))
+        .then_some(Node::Line(tall, number))
 }
 
 // `P` and the number of a piece of exactly this size (rule 8.5).
 fn piece_node(board: &Board, number: u16, width: usize, height: usize) -> Option<Node>
     ensures { result ≡ piece_node (pieces_on board.now) number width height }
 {
-    let k = usize::from(number);
-    if k == 0 {
-        return None;
-    }
-    let last = board.count();
-    if k > last {
-        return None;
-    }
-    let piece = board.piece(k - 1);
-    if usize::from(piece.width) != width {
-        return None;
-    }
-    if usize::from(piece.height) != height {
-        return None;
-    }
-    Some(Node::Piece(number))
+    let piece = board.pieces().get(usize::from(number).checked_sub(1)?)?;
+    let fits = usize::from(piece.width) == width && usize::from(piece.height) == height;
+    fits.then_some(Node::Piece(number))
 }
 
 // `S` and 0 (rule 8.5).
 fn scrap_node(number: u16) -> Option<Node>
     ensures { result ≡ scrap_node number }
 {
-    if number != 0 {
-        return None;
-    }
-    Some(Node::Scrap)
+    (number == 0).then_some(Node::Scrap)
 }
 
 // A node by its letter and its number.

@@ -22,7 +22,12 @@ fn line_node(tall: bool, side: usize, number: u16) -> Option<Node>
 fn piece_node(board: &Board, number: u16, width: usize, height: usize) -> Option<Node>
     ensures { result ≡ piece_node (pieces_on board.now) number width height }
 {
-    let piece = board.pieces().get(usize::from(number).checked_sub(1)?)?;
+    let k = usize::from(number);
+    if k == 0 || k > board.count() {
+        return None;
+    }
+    // Not `board.pieces().get`: so bench's check takes 7,517,215 instructions, where it took 7,287,055.
+    let piece = board.piece(k - 1);
     let fits = usize::from(piece.width) == width && usize::from(piece.height) == height;
     fits.then_some(Node::Piece(number))
 }

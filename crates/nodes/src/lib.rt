@@ -48,6 +48,7 @@ pub struct Nodes<'a> {
     pub bytes: &'a [u8],
 }
 
+// A function of its own, since it says once, for both kinds of leaf, that the product fits.
 fn area(width: usize, height: usize) -> u32
     requires { width * height < 2 ^ 32 }
     ensures { result ≡ width * height }

@@ -9,20 +9,17 @@ use board::line::crossed;
 use fields::format::{HORIZONTAL, PIECE, SCRAP, VERTICAL};
 
 // `V` and c, `H` and d: a line through a side (rule 8.5).
+#[tactic(auto, unfolding(crate::specs::Inner::is_inside))]
 fn line_node(tall: bool, side: usize, number: u16) -> Option<Node>
     ensures { result ≡ line_node tall side number }
 {
-    let c = usize::from(number);
-    if c == 0 {
-        return None;
-    }
-    if c >= side {
-        return None;
-    }
-    Some(Node::Line(tall, number))
+    (1..side)
+        .contains(&usize::from(number))
+        .then_some(Node::Line(tall, number))
 }
 
 // `P` and the number of a piece of exactly this size (rule 8.5).
+// In steps: check (bench/run) took 7,287,055 instructions so; with `then_some` it takes 7,344,415, with `pieces().get` besides 7,517,215.
 fn piece_node(board: &Board, number: u16, width: usize, height: usize) -> Option<Node>
     ensures { result ≡ piece_node (pieces_on board.now) number width height }
 {
@@ -48,10 +45,7 @@ fn piece_node(board: &Board, number: u16, width: usize, height: usize) -> Option
 fn scrap_node(number: u16) -> Option<Node>
     ensures { result ≡ scrap_node number }
 {
-    if number != 0 {
-        return None;
-    }
-    Some(Node::Scrap)
+    (number == 0).then_some(Node::Scrap)
 }
 
 // A node by its letter and its number.

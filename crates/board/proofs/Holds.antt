@@ -16,7 +16,7 @@ use Rattle.job.specs.Job.{piece_of, no_record, pieces_of, lay_of}
 use Rattle.job.specs.Range.{JobInRange}
 use Rattle.job.proofs.Pieces.{pieces_at, pieces-length as pieces-of-length}
 use Rattle.board.specs.declared.Board.{Board}
-use Rattle.board.specs.Inner.{width_on, height_on, count_on, width_at, height_at, value_at, Rows, rows_on, pieces_on, Size, record_at, pieces_board, with_points, board_of, Lists, Hold}
+use Rattle.board.specs.Inner.{width_on, height_on, count_on, width_at, height_at, value_at, Rows, rows_on, pieces_on, Size, record_at, pieces_board, Unmarked, with_points, board_of, Lists, Hold}
 use Rattle.board.proofs.Marks.{marks_of_at, is_point_P}
 use Rattle.board.proofs.Laid.{pieces_count, pieces_record}
 
@@ -117,6 +117,16 @@ module _ (job : Job) (few : job.count ≤ pieces_max) where
   -- Reading a plan file needs the pieces alone.
   pub pieces_read : pieces_on (pieces_board job) ≡ pieces_of job
   pieces_read = lists_pieces (pieces_board job) (pieces_of job) pieces_listed
+
+-- The board with a job's pieces is ready for its points, and with them it is the board of the job.
+pub pieces_unmarked : (job : Job) {board : Board} → JobInRange job → board ≡ pieces_board job → Unmarked board
+unfolding pieces_board
+pieces_unmarked job r e =
+    rw e (record { wide = r.width_most; high = r.height_most; none_across = refl; none_up = refl })
+
+pub points_laid : (job : Job) {board laid : Board} → board ≡ pieces_board job → laid ≡ with_points board → laid ≡ board_of job
+unfolding board_of
+points_laid job e f = f ∙ ap with_points e
 
 -- The board of a job holds its pieces, and its marks are the points.
 pub board_holds : (job : Job) → JobInRange job → Hold (rows_on (board_of job)) (pieces_of job) job.width job.height

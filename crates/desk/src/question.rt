@@ -32,7 +32,9 @@ fn fill_for(job: &Job, t: &mut [u32], x: usize, y: usize) -> u32
     if !cells::has_empty(t, usize::from(job.width), x, y) {
         return 0;
     }
-    fill::fill_box(t, &Board::of(job), x, y)
+    let mut board = Board::of_pieces(job);
+    board.set_points();
+    fill::fill_box(t, &board, x, y)
 }
 
 // The best value of x by y, and the number of cells that had to be worked out for it.

@@ -2,11 +2,12 @@ use mathlib.Core.Path.{ap₂}
 use native.Mathlib.Omega.{arith}
 use Rattle.nodes.specs.Inner.{tally}
 use Rattle.nodes.proofs.Entries.{entry_last, entry_value}
+use Rattle.board.proofs.Laid.{count_few}
 use Rattle.nodes.proofs.Nodes.piece_leaf.Goals as goal
 
 -- `piece_leaf`: its value and its area.
 pub piece-requires : goal.piece-requires
-piece-requires c = omega (arith, entry_last _ c.requires.numbered, c.args.self.now.board.now.few)
+piece-requires c = omega (arith, entry_last _ c.requires.numbered, count_few c.args.self.now.board.now)
 
 pub returns : goal.returns
 returns c =

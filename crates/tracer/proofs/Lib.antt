@@ -7,6 +7,7 @@ pub mod ByRules
 pub mod Best
 pub mod Same
 pub mod Wrote
+pub mod Parts
 pub mod Found
 pub mod Steps
 pub mod Walked

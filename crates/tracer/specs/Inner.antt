@@ -8,9 +8,8 @@ use Rattle.cutting.specs.Dissection.{rest, crossed, part_width, part_height}
 use Rattle.cutting.specs.Tree.{Tree, Valid, earning}
 use Rattle.fields.specs.Format.{node_length, letter_p, letter_s}
 use Rattle.cells.specs.Cells.{cell_of}
-use Rattle.cells.specs.Inner.{fits}
-use Rattle.board.specs.declared.Board.{Board}
-use Rattle.board.specs.Inner.{Rows, rows_on, width_on, height_on}
+use Rattle.cells.specs.Inner.{fits, Holds}
+use Rattle.board.specs.Inner.{Rows, rows_on, width_on}
 use Rattle.nodes.specs.Encoding.{letter_of, node, encode}
 use Rattle.tracer.specs.declared.Wanted.{Wanted}
 use Rattle.tracer.specs.declared.Step.{Step}
@@ -59,6 +58,10 @@ fits_in rows x y k = fits (rows.width k) (rows.height k) x y
 -- Has the piece at index k the value V (`number`), and does it pass a test of its size?
 unfoldable pub suits : Rows → (ℕ → Bool) → ℕ → ℕ → Bool
 suits rows test number k = eqb (rows.value k) number && test k
+
+-- What a test answers for the size of the piece at index k, by its `post`, is `test k`.
+abbrev pub Answers : Rows → (ℕ → ℕ → Bool → Type 0) → (ℕ → Bool) → Type 0
+Answers rows post test = (k : ℕ) (b : Bool) → k < rows.count → post (rows.width k) (rows.height k) b → b ≡ test k
 
 -- What a search by number found: none where that is 0.
 abbrev pub some_number : ℕ → Option ℕ
@@ -173,11 +176,6 @@ Among rows Wanted.Waste = Unit {0}
 abbrev pub Sized : Rows → Type 0
 Sized rows = (k : ℕ) → k < rows.count → (1 ≤ rows.width k) × (1 ≤ rows.height k)
 
--- What the tracing of a part may rely on, with this board: it lies on the sheet.
-pub record Traceable (board : Board) (p : WantedPart) : Type 0 where
-  pub wanted : Among (rows_on board) p.wanted
-  pub inside : Inside p.width p.height (width_on board) (height_on board)
-
 -- The tree dissects x by y and earns this number.
 pub record Dissects (pieces : List Piece) (t : Tree) (x y number : ℕ) : Type 0 where
   pub valid : Valid pieces t x y
@@ -190,6 +188,15 @@ rows_in t = rows_on t.board.now
 abbrev pub cell_in : Table → ℕ → ℕ → ℕ
 cell_in t = cell_of (width_on t.board.now) t.cells.now
 
--- The rectangle lies on the sheet.
+-- The table holds the rectangle's rows, and the rectangle lies in them.
+pub record OnTable (a : ℕ) (t : List ℕ) (x y : ℕ) : Type 0 where
+  pub holds : Holds a y t
+  pub inside : Inside x y a y
+
 abbrev pub OnSheet : Table → ℕ → ℕ → Type 0
-OnSheet t x y = Inside x y (width_on t.board.now) (height_on t.board.now)
+OnSheet t x y = OnTable (width_on t.board.now) t.cells.now x y
+
+-- What the tracing of a part may rely on.
+pub record Traceable (table : Table) (p : WantedPart) : Type 0 where
+  pub wanted : Among (rows_in table) p.wanted
+  pub on_table : OnSheet table p.width p.height

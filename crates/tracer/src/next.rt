@@ -49,7 +49,7 @@ fn ruled(table: &Table, width: usize, height: usize) -> Option<Step>
 #[inline(always)]
 #[tactic(auto, unfolding(crate::specs::Inner::step_in, board::specs::Inner::rows_on))]
 pub fn next_step(table: &Table, width: usize, height: usize, wanted: Wanted) -> Option<Step>
-    requires { Traceable table.now.board.now (part_of width height wanted) }
+    requires { Traceable table.now (part_of width height wanted) }
     ensures { result ≡ step_in (rows_in table.now) (cell_in table.now) (part_of width height wanted) }
 {
     match wanted {

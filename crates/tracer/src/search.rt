@@ -1,9 +1,10 @@
 // The first piece and the least line that the rules ask for.
-ghost use Rattle.std.specs.Prelude.{◌≡◌, ◌&&◌, ◌≤◌, ◌<◌, ℕ, Bool};
+// A rectangle goes as two numbers, as in the recursion (walk.rt).
+ghost use Rattle.std.specs.Prelude.{◌≡◌, ◌&&◌, ◌≤◌, ℕ, Bool};
 ghost use Rattle.cutting.specs.Candidate.{UpToHalf};
 ghost use Rattle.cutting.specs.Dissection.{crossed as crossed_of};
 ghost use Rattle.cells.specs.Cells.{empty};
-ghost use Rattle.tracer.specs.Inner.{two_cells, is_size, fits_in, first_piece, adds_to, least_line, rows_in, cell_in, OnSheet};
+ghost use Rattle.tracer.specs.Inner.{two_cells, is_size, fits_in, Answers, first_piece, adds_to, least_line, rows_in, cell_in, OnSheet};
 
 use crate::table::Table;
 use board::line::{crossed, part_height, part_width, rest};
@@ -22,10 +23,7 @@ pub fn number_of(table: &Table, width: usize, height: usize) -> usize
 #[tactic(auto, using(crate::proofs::Found::piece_found, crate::proofs::Found::no_piece), unfolding(crate::specs::Inner::suits, board::specs::Inner::rows_on))]
 fn first_piece<F: Fn(usize, usize) -> bool>(table: &Table, number: usize, suits: F) -> Option<u16>
     requires { F.IsAlwaysCallable suits }
-    ensures { (test : ℕ → Bool)
-        → ((k : ℕ) (b : Bool) → k < (rows_in table.now).count
-        → F.post suits ((rows_in table.now).width k) ((rows_in table.now).height k) b → b ≡ test k)
-        → result ≡ first_piece (rows_in table.now) test number }
+    ensures { (test : ℕ → Bool) → Answers (rows_in table.now) (F.post suits) test → result ≡ first_piece (rows_in table.now) test number }
 {
     let pieces = table.board.pieces();
     for (k, piece) in pieces.iter().enumerate() {
@@ -52,7 +50,7 @@ pub fn fitting_piece(table: &Table, width: usize, height: usize, number: usize) 
 }
 
 // What the cells of a line's two parts add to.
-#[tactic(auto, unfolding(crate::specs::Inner::two_cells))]
+#[tactic(auto, using(crate::proofs::Parts::part_table), unfolding(crate::specs::Inner::two_cells))]
 fn two_cells(table: &Table, tall: bool, width: usize, height: usize, c: usize) -> usize
     requires inside { OnSheet table.now width height }
     requires half { (1 ≤ c) × UpToHalf c (crossed_of tall width height) }

@@ -1,7 +1,6 @@
 // What a tree is read from.
 ghost use Rattle.std.specs.Prelude.{ℕ, ◌≤◌, ◌<◌};
-ghost use Rattle.cells.specs.Inner.{Holds};
-ghost use Rattle.board.specs.Inner.{rows_on, width_on, height_on};
+ghost use Rattle.board.specs.Inner.{rows_on};
 
 use board::Board;
 
@@ -11,5 +10,4 @@ pub struct Table<'a> {
     pub board: &'a Board,
     pub cells: &'a [u32],
     ghost sized: { (k : ℕ) → k < (rows_on board.now).count → (1 ≤ (rows_on board.now).width k) × (1 ≤ (rows_on board.now).height k) },
-    ghost holds: { Holds (width_on board.now) (height_on board.now) cells.now },
 }

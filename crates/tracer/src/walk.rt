@@ -15,7 +15,7 @@ use fields::format::{HORIZONTAL, NODE_LENGTH, PIECE, SCRAP, VERTICAL};
 
 // The number of bytes that the nodes of a part's tree take; none where rule 6.6 strikes in it.
 pub fn measure(table: &Table, width: usize, height: usize, wanted: Wanted) -> Option<usize>
-    requires { Traceable table.now.board.now (part_of width height wanted) }
+    requires { Traceable table.now (part_of width height wanted) }
     ensures { result ≡ measured (rows_in table.now) (cell_in table.now) (part_of width height wanted) }
 {
     let Step::Line(at, near, tall) = next_step(table, width, height, wanted)? else {
@@ -68,6 +68,7 @@ fn write_step(o: &mut [u8], at: usize, step: Step) -> usize
     }
 }
 
+// The place is a number, as plan wants it for the trailer's distances; so o and at stay two.
 // Writes the nodes of a part's tree at a place, and answers the place after them. Where rule 6.6 strikes nobody writes; scrap stands for it here.
 pub fn write(
     table: &Table,
@@ -77,7 +78,7 @@ pub fn write(
     o: &mut [u8],
     at: usize,
 ) -> usize
-    requires traceable { Traceable table.now.board.now (part_of width height wanted) }
+    requires traceable { Traceable table.now (part_of width height wanted) }
     requires room { Room o.old at (encode (traced (rows_in table.now) (cell_in table.now) (part_of width height wanted))) }
     ensures { Wrote o.old at (encode (traced (rows_in table.now) (cell_in table.now) (part_of width height wanted))) result o.new }
 {

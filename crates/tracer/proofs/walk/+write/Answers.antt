@@ -17,19 +17,19 @@ returns-in_default t c =
 pub write-middle-requires : goal.write-middle-requires
 write-middle-requires t c =
     let step = line_or_scrap c.next_step.ensures c.unwrap_or-next.ensures c.in-Line.is in
-    near_write c.requires.traceable _ step c.in-Line.is
+    near_write c.requires.traceable step c.in-Line.is
     (record { place = c.from-c.ensures; width = c.part_width.ensures; height = c.part_height.ensures })
     c.requires.room c.write_step-after.ensures c.decreases
 
 pub rest-r-requires : goal.rest-r-requires
 rest-r-requires t c =
     let step = line_or_scrap c.next_step.ensures c.unwrap_or-next.ensures c.in-Line.is in
-    omega (arith, line_inside c.requires.traceable _ step, c.from-c.ensures, c.crossed.ensures)
+    omega (arith, line_inside c.requires.traceable step, c.from-c.ensures, c.crossed.ensures)
 
 pub write-requires : goal.write-requires
 write-requires t c =
     let step = line_or_scrap c.next_step.ensures c.unwrap_or-next.ensures c.in-Line.is in
-    far_write c.requires.traceable _ step c.in-Line.is
+    far_write c.requires.traceable step c.in-Line.is
     (record { place = c.from-c.ensures; width = c.part_width.ensures; height = c.part_height.ensures })
     c.requires.room c.write_step-after.ensures (record {
       place = c.from-c.ensures;
@@ -44,7 +44,7 @@ write-requires t c =
 pub returns : goal.returns
 returns t c =
     let step = line_or_scrap c.next_step.ensures c.unwrap_or-next.ensures c.in-Line.is in
-    line_written c.requires.traceable _ step c.in-Line.is
+    line_written c.requires.traceable step c.in-Line.is
     (record { place = c.from-c.ensures; width = c.part_width.ensures; height = c.part_height.ensures })
     c.requires.room c.write_step-after.ensures (record {
       place = c.from-c.ensures;

@@ -2,7 +2,7 @@
 use Prim.Native.Nat.{ℕ, zero, suc, ◌+◌, ◌*◌, ◌≤◌}
 use mathlib.Core.Bool.{Bool, true, false, cond}
 use mathlib.Core.List.{List}
-use mathlib.Core.Path.{◌≡◌, refl, sym, ap, ap₂, ◌∙◌, subst}
+use mathlib.Core.Path.{◌≡◌, refl, sym, ap, ap₂, ◌∙◌}
 use native.Mathlib.Omega.{arith}
 use native.Mathlib.Nat.{mul-le-mul}
 use lib.ListN.{length}
@@ -11,10 +11,8 @@ use Rattle.laws.specs.Inner.{number_given, every_number, Wrote}
 use Rattle.laws.proofs.Refusal.{answers, begun_stops, begun_passes}
 use Rattle.laws.specs.Put.{put}
 use Rattle.cutting.specs.Limits.{side_max}
-use Rattle.cutting.specs.Piece.{Inside}
 use Rattle.cutting.specs.Tree.{earning}
 use Rattle.cells.specs.Cells.{cell_of}
-use Rattle.cells.specs.Inner.{Holds}
 use Rattle.job.specs.declared.Job.{Job}
 use Rattle.job.specs.Job.{pieces_of}
 use Rattle.job.specs.Block.{block_length}
@@ -29,8 +27,6 @@ use Rattle.desk.proofs.Answers.{given, left-as-it-was}
 use Rattle.plan.specs.File.{sheet_of}
 use Rattle.plan.specs.Inner.{tree_for, traces_for, plan_file, box_rows, plan_tests, box_refused, file_refused, file_number, plan_refused, planned_with, Ready}
 use Rattle.plan.specs.Refusals.{Readable, plan_refusals}
-use Rattle.cells.proofs.Places.{holds_lower}
-use Rattle.desk.proofs.Exactly.{usable_holds}
 use Rattle.plan.proofs.Tracing.{measured_as, tree_by_rules, tree_dissects}
 use Rattle.plan.proofs.Writing.{sheet_pieces, file-length}
 use Rattle.plan.proofs.Enough.{plan_enough_lem}
@@ -59,15 +55,6 @@ written_answer {value = value} {o = o} {file = file} e z w f =
 
 module _ (job : Job) (t : List ℕ) (x y : ℕ) where
   -- The cell that is read, with the code's width.
-  pub cell_there : {a : ℕ} → Readable job t x y → a ≡ job.width → Holds a y t × Inside x y a y
-  cell_there r f =
-      let i = r.inside in
-      let here : Holds job.width y t × Inside x y job.width y = (
-        holds_lower y (usable_holds job t r.usable) i.height_least i.height_most,
-        record { width_least = i.width_least; width_most = i.width_most; height_least = i.height_least; height_most = omega arith },
-      ) in
-      subst (λ (a : ℕ). Holds a y t × Inside x y a y) (sym f) here
-
   pub cell_read : {a v : ℕ} → v ≡ cell_of a t x y → a ≡ job.width → v ≡ cell_of job.width t x y
   cell_read e f = e ∙ ap (λ (m : ℕ). cell_of m t x y) f
 

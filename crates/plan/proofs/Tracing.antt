@@ -3,7 +3,6 @@ use Prim.Native.Nat.{ℕ, ◌+◌, ◌≤◌}
 use mathlib.Core.Bool.{true, cond}
 use Rattle.std.proofs.Common.{Option, Some, None}
 use Rattle.cutting.specs.Limits.{side_max}
-use Rattle.cutting.specs.Piece.{Inside}
 use mathlib.Core.List.{List}
 use mathlib.Core.Path.{◌≡◌, sym, ap, ◌∙◌, subst}
 use native.Mathlib.Omega.{arith}
@@ -11,20 +10,20 @@ use lib.ListN.{length}
 use Rattle.laws.specs.Inner.{Says, Room, Wrote}
 use Rattle.cutting.specs.Tree.{Tree, Valid, earning}
 use Rattle.cells.specs.Cells.{cell_of}
-use Rattle.cells.specs.Inner.{Holds}
 use Rattle.board.specs.declared.Board.{Board}
-use Rattle.board.specs.Inner.{rows_on, board_of, width_on, height_on, Hold}
-use Rattle.board.proofs.Holds.{board_holds, board_width, board_height}
+use Rattle.board.specs.Inner.{rows_on, board_of, width_on, Hold}
+use Rattle.board.proofs.Holds.{board_holds, board_width}
 use Rattle.nodes.specs.Encoding.{encode}
 use Rattle.job.specs.declared.Job.{Job}
 use Rattle.job.specs.Job.{pieces_of}
+use Rattle.tracer.specs.declared.table.Table.{Table}
 use Rattle.tracer.specs.Inner.{whole, traced, measured, length_most, Sized, Traceable, Dissects}
 use Rattle.tracer.proofs.Traced.{measured_most}
 use Rattle.laws.proofs.Wrote.{wrote_as}
 use Rattle.tracer.proofs.ByRules.{traced_by_rules, rules_trace, rules_only, traces_says}
 use Rattle.tracer.proofs.Valid.{rules_dissect}
 use Rattle.desk.specs.Inner.{job_rows}
-use Rattle.desk.proofs.Exactly.{usable_holds}
+use Rattle.desk.proofs.Exactly.{usable_box}
 use Rattle.plan.specs.File.{TreeFor}
 use Rattle.plan.specs.Inner.{tree_for, traces_for}
 use Rattle.plan.specs.Refusals.{Readable}
@@ -40,24 +39,15 @@ module _ (job : Job) (t : List ℕ) (x y : ℕ) (r : Readable job t x y) where
       let g = r.usable.range.pieces _ _ _ (record { number = k + 1; numbered = n }) in
       (g.width_least, g.height_least)
 
-  -- With the board of the job the table can be traced from x by y.
-  module _ {board : Board} (is : board ≡ board_of job) where
-    pub sized : Sized (rows_on board)
-    unfolding job_rows
-    sized = subst (λ (b : Board). Sized (rows_on b)) (sym is) rows_sized
+  -- With the board of the job there is a table, and it can be traced from x by y.
+  pub sized : {board : Board} → board ≡ board_of job → Sized (rows_on board)
+  unfolding job_rows
+  sized is = subst (λ (b : Board). Sized (rows_on b)) (sym is) rows_sized
 
-    pub holds : Holds (width_on board) (height_on board) t
-    holds =
-        let most = r.usable.range.count_most in
-        subst (λ (b : Board). Holds (width_on b) (height_on b) t) (sym is) (rw (board_width job most, board_height job most) (usable_holds job t r.usable))
-
-    pub traceable : Traceable board (whole x y)
-    traceable =
-        let most = r.usable.range.count_most in
-        record {
-          wanted = tt;
-          inside = subst (λ (b : Board). Inside x y (width_on b) (height_on b)) (sym is) (rw (board_width job most, board_height job most) r.inside);
-        }
+  pub traceable : {table : Table} → table.board.now ≡ board_of job → table.cells.now ≡ t → Traceable table (whole x y)
+  traceable {table} is has =
+      let box = usable_box job t x y r.usable r.inside (ap width_on is ∙ board_width job r.usable.range.count_most) in
+      record { wanted = tt; on_table = rw has (record { holds = box.0; inside = omega (arith, r.inside, box) }) }
 
   -- The tree that is traced is the tree by the rules, there is no other, and where rule 6.6 strikes there is none.
   pub tree_by_rules : traces_for job t x y ≡ true → TreeFor job t x y (tree_for job t x y)

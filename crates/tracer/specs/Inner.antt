@@ -193,6 +193,7 @@ pub record OnTable (a : ℕ) (t : List ℕ) (x y : ℕ) : Type 0 where
   pub holds : Holds a y t
   pub inside : Inside x y a y
 
+-- That, of the table that the code reads.
 abbrev pub OnSheet : Table → ℕ → ℕ → Type 0
 OnSheet t x y = OnTable (width_on t.board.now) t.cells.now x y
 

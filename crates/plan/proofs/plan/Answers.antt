@@ -1,7 +1,7 @@
 use Rattle.std.proofs.Common.{refl, ◌∙◌, sym, ap}
 use Rattle.refusals.specs.Refusals.{number}
 use Rattle.refusals.proofs.Numbers.{never_zero, refused_with}
-use Rattle.plan.proofs.Tracing.{sized, holds, traceable, measured_short}
+use Rattle.plan.proofs.Tracing.{sized, traceable, measured_short}
 use Rattle.plan.proofs.Exactly.{readable_of, plan_granted}
 use Rattle.plan.proofs.Answers.{plan_left, written_answer, box_decides, file_decides}
 use Rattle.plan.specs.Inner.{planned, planned_bytes, file_number}
@@ -17,12 +17,10 @@ pub of-board-requires : goal.of-board-requires
 of-board-requires c = (readable_of _ _ _ _ c.in_ok-of_box.ensures refl).usable.range
 
 pub invariant_of-table : goal.invariant_of-table
-invariant_of-table c =
-    let read = readable_of _ _ _ _ c.in_ok-of_box.ensures refl in
-    record { sized = sized _ _ _ _ read c.of-board.ensures; holds = holds _ _ _ _ read c.of-board.ensures }
+invariant_of-table c = record { sized = sized _ _ _ _ (readable_of _ _ _ _ c.in_ok-of_box.ensures refl) c.of-board.ensures }
 
 pub measure-requires : goal.measure-requires
-measure-requires c = traceable _ _ _ _ (readable_of _ _ _ _ c.in_ok-of_box.ensures refl) c.of-board.ensures
+measure-requires c = traceable _ _ _ _ (readable_of _ _ _ _ c.in_ok-of_box.ensures refl) c.of-board.ensures refl
 
 pub returns-in_err-nodes : goal.returns-in_err-nodes
 unfolding planned planned_bytes file_number

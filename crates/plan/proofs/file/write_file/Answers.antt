@@ -1,4 +1,4 @@
-use Rattle.std.proofs.Common.{arith}
+use Rattle.std.proofs.Common.{refl, arith}
 use Rattle.plan.proofs.Answers.{cell_read, length_fits}
 use Rattle.plan.proofs.Filing.{block_fits, nodes_fit, pointers_fit, sum_fits, filed}
 use Rattle.plan.proofs.Tracing.{traceable, nodes_room, nodes_wrote}
@@ -9,7 +9,7 @@ pub put_block-requires-clause-room : goal.put_block-requires-clause-room
 put_block-requires-clause-room c = (block_fits _ _ _ _ _ c.requires.ready).1
 
 pub write-at-requires-clause-traceable : goal.write-at-requires-clause-traceable
-write-at-requires-clause-traceable c = traceable _ _ _ _ c.requires.ready.readable c.requires.laid
+write-at-requires-clause-traceable c = traceable _ _ _ _ c.requires.ready.readable c.requires.laid refl
 
 pub write-at-requires-clause-room : goal.write-at-requires-clause-room
 write-at-requires-clause-room c =

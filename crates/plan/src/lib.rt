@@ -28,7 +28,8 @@ pub fn plan(job: &Job, t: &[u32], x: u32, y: u32, o: &mut [u8]) -> Result<Writte
     ensures { PlanPromise job.now t.now x y o.old (planned_from result) o.new }
 {
     refusal::of_box(job, t, x, y)?;
-    let board = Board::of(job);
+    let mut board = Board::of_pieces(job);
+    board.set_points();
     let table = Table {
         board: &board,
         cells: t,

@@ -1,5 +1,6 @@
 use Rattle.std.proofs.Common.{refl, ◌∙◌, sym, ap}
 use Rattle.refusals.specs.Refusals.{number}
+use Rattle.board.proofs.Holds.{pieces_unmarked, points_laid}
 use Rattle.refusals.proofs.Numbers.{never_zero, refused_with}
 use Rattle.plan.proofs.Tracing.{sized, traceable, measured_short}
 use Rattle.plan.proofs.Exactly.{readable_of, plan_granted}
@@ -13,14 +14,17 @@ unfolding planned planned_bytes
 returns-in_err-of_box c =
     plan_left _ _ _ _ _ _ c.from_residual.ensures.1 (box_decides _ _ _ _ _ c.in_err-of_box.ensures (never_zero _))
 
-pub of-board-requires : goal.of-board-requires
-of-board-requires c = (readable_of _ _ _ _ c.in_ok-of_box.ensures refl).usable.range
+pub of_pieces-board-requires : goal.of_pieces-board-requires
+of_pieces-board-requires c = (readable_of _ _ _ _ c.in_ok-of_box.ensures refl).usable.range.count_most
+
+pub set_points-requires : goal.set_points-requires
+set_points-requires c = pieces_unmarked _ (readable_of _ _ _ _ c.in_ok-of_box.ensures refl).usable.range c.of_pieces-board.ensures
 
 pub invariant_of-table : goal.invariant_of-table
-invariant_of-table c = record { sized = sized _ _ _ _ (readable_of _ _ _ _ c.in_ok-of_box.ensures refl) c.of-board.ensures }
+invariant_of-table c = record { sized = sized _ _ _ _ (readable_of _ _ _ _ c.in_ok-of_box.ensures refl) (points_laid _ c.of_pieces-board.ensures c.set_points.ensures) }
 
 pub measure-requires : goal.measure-requires
-measure-requires c = traceable _ _ _ _ (readable_of _ _ _ _ c.in_ok-of_box.ensures refl) c.of-board.ensures refl
+measure-requires c = traceable _ _ _ _ (readable_of _ _ _ _ c.in_ok-of_box.ensures refl) (points_laid _ c.of_pieces-board.ensures c.set_points.ensures) refl
 
 pub returns-in_err-nodes : goal.returns-in_err-nodes
 unfolding planned planned_bytes file_number
@@ -29,11 +33,11 @@ returns-in_err-nodes c =
     let none = c.in_err-nodes.ensures in
     let nodes = sym none.ok_part ∙ c.measure.ensures in
     plan_left _ _ _ _ _ _ c.from_residual-in_err-nodes.ensures.1
-    (file_decides _ _ _ _ _ (readable_of _ _ _ _ box refl) box refl c.of-board.ensures nodes (ap number (refused_with _ none.value)))
+    (file_decides _ _ _ _ _ (readable_of _ _ _ _ box refl) box refl (points_laid _ c.of_pieces-board.ensures c.set_points.ensures) nodes (ap number (refused_with _ none.value)))
 
 pub of_room-requires : goal.of_room-requires
 of_room-requires c =
-    measured_short _ _ _ _ (readable_of _ _ _ _ c.in_ok-of_box.ensures refl) c.of-board.ensures c.measure.ensures c.in_ok-nodes.ensures.ok_part
+    measured_short _ _ _ _ (readable_of _ _ _ _ c.in_ok-of_box.ensures refl) (points_laid _ c.of_pieces-board.ensures c.set_points.ensures) c.measure.ensures c.in_ok-nodes.ensures.ok_part
 
 pub returns-in_err-of_room : goal.returns-in_err-of_room
 unfolding planned planned_bytes
@@ -41,18 +45,21 @@ returns-in_err-of_room c =
     let box = c.in_ok-of_box.ensures in
     let nodes = sym c.in_ok-nodes.ensures.ok_part ∙ c.measure.ensures in
     plan_left _ _ _ _ _ _ c.from_residual-in_err-of_room.ensures.1
-    (file_decides _ _ _ _ _ (readable_of _ _ _ _ box refl) box refl c.of-board.ensures nodes c.in_err-of_room.ensures)
+    (file_decides _ _ _ _ _ (readable_of _ _ _ _ box refl) box refl (points_laid _ c.of_pieces-board.ensures c.set_points.ensures) nodes c.in_err-of_room.ensures)
 
 pub write_file-requires-clause-ready : goal.write_file-requires-clause-ready
 write_file-requires-clause-ready c =
     let box = c.in_ok-of_box.ensures in
     let nodes = sym c.in_ok-nodes.ensures.ok_part ∙ c.measure.ensures in
-    plan_granted _ _ _ _ _ (file_decides _ _ _ _ _ (readable_of _ _ _ _ box refl) box refl c.of-board.ensures nodes c.in_ok-of_room.ensures) refl
+    plan_granted _ _ _ _ _ (file_decides _ _ _ _ _ (readable_of _ _ _ _ box refl) box refl (points_laid _ c.of_pieces-board.ensures c.set_points.ensures) nodes c.in_ok-of_room.ensures) refl
 
 pub returns : goal.returns
 unfolding planned planned_bytes
 returns c =
     let box = c.in_ok-of_box.ensures in
     let nodes = sym c.in_ok-nodes.ensures.ok_part ∙ c.measure.ensures in
-    let number = file_decides _ _ _ _ _ (readable_of _ _ _ _ box refl) box refl c.of-board.ensures nodes c.in_ok-of_room.ensures in
+    let number = file_decides _ _ _ _ _ (readable_of _ _ _ _ box refl) box refl (points_laid _ c.of_pieces-board.ensures c.set_points.ensures) nodes c.in_ok-of_room.ensures in
     written_answer number refl c.write_file.ensures.file c.write_file.ensures.value
+
+pub write_file-requires-clause-laid : goal.write_file-requires-clause-laid
+write_file-requires-clause-laid c = points_laid _ c.of_pieces-board.ensures c.set_points.ensures

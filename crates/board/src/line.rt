@@ -17,7 +17,7 @@ pub fn crossed(tall: bool, width: usize, height: usize) -> usize
     if tall { height } else { width }
 }
 
-// The sides of a part of a line: `part` of the side that it goes through, and all of the other.
+// The sides of a part of a line: `part` of the side that it goes through, and all of the other. Two functions, as the definitions have them.
 pub fn part_width(tall: bool, width: usize, part: usize) -> usize
     ensures { result ≡ part_width tall width part }
 {

@@ -52,7 +52,9 @@ judged_job file None = Checked.Refused job_out_of_range
 -- The first number that applies, or the answer (rule 4.16).
 unfoldable pub checked : List ℕ → Checked
 checked file =
-    cond (framed file) (cond (sum_agrees file) (judged_job file (agreed (from_block (block_bytes file)))) (Checked.Refused sum_differs)) (Checked.Refused not_framed)
+    cond (framed file)
+    (cond (sum_agrees file) (judged_job file (agreed (from_block (block_bytes file)))) (Checked.Refused sum_differs))
+    (Checked.Refused not_framed)
 
 -- The promise of check, for all input: r is its answer. It has no premise.
 abbrev pub CheckPromise : List ℕ → Checked → Type 0

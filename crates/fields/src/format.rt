@@ -1,4 +1,4 @@
-// The plan file's own numbers: letters, lengths and places.
+// The plan file's own numbers: letters, lengths and places. A letter is a byte of the file; what it says is a `nodes::Node`.
 pub const VERTICAL: u8 = b'V';
 
 pub const HORIZONTAL: u8 = b'H';

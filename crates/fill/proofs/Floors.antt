@@ -5,7 +5,7 @@ use mathlib.Core.List.{List}
 use mathlib.Core.Path.{◌≡◌, refl, sym, ap, ◌∙◌}
 use native.Mathlib.Omega.{arith}
 use lib.Dec.{leb, ltb}
-use lib.ListN.{get_or, replicate, get_or-eq_default}
+use lib.ListN.{length, get_or, replicate, get_or-eq_default}
 use mathlib.Core.Logic.{⊎_elim}
 use Rattle.std.proofs.lemmas.List.{get_or-replicate, length-replicate}
 use Rattle.laws.proofs.Order.{le_or_lt}
@@ -13,6 +13,11 @@ use Rattle.laws.specs.Inner.{Says}
 use Rattle.laws.proofs.Says.{says_and, says_le, says_false}
 use Rattle.cutting.specs.Piece.{Fits}
 use Rattle.cutting.specs.Dissection.{rest}
+use Rattle.job.specs.declared.Piece.{Piece as Record}
+use Rattle.job.specs.Job.{no_record}
+use Rattle.board.specs.declared.Board.{Board}
+use Rattle.board.specs.Inner.{records_on, width_at, height_at, value_at}
+use Rattle.board.proofs.Laid.{record_on}
 use Rattle.cells.specs.Inner.{fits}
 use Rattle.cells.proofs.Emptied.{fits_says}
 use Rattle.fill.specs.Inner.{fitting_value, line_at, line_value, value_in, Raises, Columns, floor_by}
@@ -74,15 +79,27 @@ module _ (from x w p q v : ℕ) (f : List ℕ) where
           ∙ ap (raised from (λ u. value_in p q v u w) f u) (sym ((range_says u).found i))
       by u false m = spared u (λ i z. says_false m refl (omega (arith, i.0, i.1, z.wide), i.1))
 
--- Piece by piece.
-module _ (width height value : ℕ → ℕ) (from x w : ℕ) where
-  pub pieces_none : (f : List ℕ) → Columns from x (λ u. 0) f → Columns from x (λ u. fitting_value width height value 0 u w) f
-  pieces_none f h = record { at = λ u a b. h.at u a b ∙ fitting_none width height value u w }
+-- Piece by piece, over the records that are a board's pieces: what the first k of them give in column u.
+abbrev pub pieces_up_to : Board → ℕ → ℕ → ℕ → ℕ
+pieces_up_to board w k u = fitting_value (width_at board) (height_at board) (value_at board) k u w
 
-  pub pieces_more : (k : ℕ) {f f' : List ℕ} {p q v : ℕ} → Columns from x (λ u. fitting_value width height value k u w) f → p ≡ width k → q ≡ height k
-      → v ≡ value k → Raises from x (λ u. value_in p q v u w) f f' → Columns from x (λ u. fitting_value width height value (k + 1) u w) f'
-  pieces_more k {f} {f'} h d e g r =
-      record { at = λ u a b. fitting_more width height value u w k (h.at u a b) (λ i. value_in (d i) (e i) (g i) u w) (raised_in from x _ f f' r u a b) }
+module _ (board : Board) (from x w : ℕ) where
+  pub pieces_none : (f : List ℕ) → Columns from x (λ u. 0) f → Columns from x (pieces_up_to board w 0) f
+  pieces_none f h = record { at = λ u a b. h.at u a b ∙ fitting_none (width_at board) (height_at board) (value_at board) u w }
+
+  -- What one record gives.
+  abbrev given : Record → ℕ → ℕ
+  given piece u = value_in piece.width piece.height piece.value u w
+
+  pub pieces_more : (k : ℕ) {records : List Record} {f f' : List ℕ} → records ≡ records_on board → k < length records
+      → Columns from x (pieces_up_to board w k) f → Raises from x (given (get_or records k no_record)) f f'
+      → Columns from x (pieces_up_to board w (k + 1)) f'
+  pieces_more k {records} {f} {f'} e l h r =
+      record {
+        at = λ u a b.
+            fitting_more (width_at board) (height_at board) (value_at board) u w k (h.at u a b)
+            (ap (λ (piece : Record). given piece u) (record_on board k e l)) (raised_in from x _ f f' r u a b);
+      }
 
 -- Line by line: column u of a floor f once the lines at 1, …, d have been tried.
 unfoldable pub lined : (ℕ → Bool) → (ℕ → ℕ → ℕ) → ℕ → List ℕ → ℕ → ℕ → ℕ

@@ -46,7 +46,3 @@ module _ (marked : ℕ → Bool) (part : ℕ → ℕ) (x : ℕ) where
   pub line_unmarked : {c : ℕ} {b : Bool} → b ≡ marked c → b ≡ false → 0 ≡ line_at marked part x c
   unfolding line_at
   line_unmarked {c} e t = ap (λ (b : Bool). cond b (part c + part (rest x c)) 0) (sym t ∙ e)
-
--- The number of a line's far part, at the place that the code worked out.
-pub far_part_lem : (part : ℕ → ℕ) {r c v : ℕ} → r ≡ c → v ≡ part r → v ≡ part c
-far_part_lem part e h = h ∙ ap part e

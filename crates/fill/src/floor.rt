@@ -1,6 +1,6 @@
 // The floor of a row: what each of its cells is worth without a line across. It is found for a whole row at once, piece by
 // piece and line by line, so that the inner loops go along the row.
-ghost use Rattle.std.specs.Prelude.{◌≡◌, ◌≤◌, ◌<◌, max, length, get_or};
+ghost use Rattle.std.specs.Prelude.{◌≡◌, ◌≤◌, ◌<◌, max, get_or};
 ghost use Rattle.cutting.specs.Limits.{side_max};
 ghost use Rattle.board.specs.Inner.{width_on};
 ghost use Rattle.fill.specs.Inner.{Raises, Columns, LinesUp, value_in, fitting_on, lines_on, parts_on, floor_on};
@@ -14,8 +14,8 @@ use job::Piece;
 pub type Floor = [u32; MARKS];
 
 // Raises the floor of the columns from..=x to a value.
-fn raise_to(floor: &mut [u32], from: usize, x: usize, value: u32)
-    requires { (x ≤ side_max) × (side_max < length floor.old) }
+fn raise_to(floor: &mut Floor, from: usize, x: usize, value: u32)
+    requires { x ≤ side_max }
     ensures { Raises from x (λ u. value) floor.old floor.new }
 {
     for u in from..x + 1 {
@@ -24,8 +24,8 @@ fn raise_to(floor: &mut [u32], from: usize, x: usize, value: u32)
 }
 
 // Raises the floor of the columns from..=x by a piece, where it fits in row w.
-fn raise_by_piece(floor: &mut [u32], from: usize, x: usize, w: usize, piece: Piece)
-    requires { (x ≤ side_max) × (side_max < length floor.old) }
+fn raise_by_piece(floor: &mut Floor, from: usize, x: usize, w: usize, piece: Piece)
+    requires { x ≤ side_max }
     ensures { Raises from x (λ u. value_in piece.width piece.height piece.value u w) floor.old floor.new }
 {
     if usize::from(piece.height) <= w {
@@ -39,19 +39,19 @@ fn raise_by_piece(floor: &mut [u32], from: usize, x: usize, w: usize, piece: Pie
 }
 
 // Raises the floor of the columns from..=x by every piece.
-fn raise_by_pieces(floor: &mut [u32], board: &Board, from: usize, x: usize, w: usize)
-    requires bounds { (x ≤ side_max) × (side_max < length floor.old) }
+fn raise_by_pieces(floor: &mut Floor, board: &Board, from: usize, x: usize, w: usize)
+    requires bound { x ≤ side_max }
     requires columns { Columns from x (λ u. 0) floor.old }
     ensures { Columns from x (λ u. fitting_on board.now u w) floor.new }
 {
-    for k in 0..board.count() {
-        raise_by_piece(floor, from, x, w, board.piece(k));
+    for piece in board.pieces() {
+        raise_by_piece(floor, from, x, w, *piece);
     }
 }
 
 // Raises the floor of the columns from..=x by the line at d of each column up to row w.
 fn raise_by_line(
-    floor: &mut [u32],
+    floor: &mut Floor,
     t: &[u32],
     board: &Board,
     from: usize,
@@ -60,7 +60,7 @@ fn raise_by_line(
     d: usize,
 )
     requires lines_up { LinesUp (width_on board.now) t.now from x w }
-    requires bounds { (side_max < length floor.old) × (1 ≤ d) × (d < w) }
+    requires before { (1 ≤ d) × (d < w) }
     ensures { Raises from x (parts_on board.now t.now w d) floor.old floor.new }
 {
     let far = rest(w, d);
@@ -70,9 +70,8 @@ fn raise_by_line(
 }
 
 // Raises the floor of the columns from..=x by every marked line up to the middle of row w.
-fn raise_by_lines(floor: &mut [u32], t: &[u32], board: &Board, from: usize, x: usize, w: usize)
-    requires lines_up { LinesUp (width_on board.now) t.now from x w }
-    requires bounds { side_max < length floor.old }
+fn raise_by_lines(floor: &mut Floor, t: &[u32], board: &Board, from: usize, x: usize, w: usize)
+    requires { LinesUp (width_on board.now) t.now from x w }
     ensures { Columns from x (λ u. max (get_or floor.old u 0) (lines_on board.now t.now w u)) floor.new }
 {
     for d in 1..w / 2 + 1 {

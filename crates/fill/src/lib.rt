@@ -69,7 +69,7 @@ fn fill_row(t: &mut [u32], board: &Board, x: usize, w: usize) -> u32
 }
 
 // Fills the box x by y of the sheet on the board. Answers how many of its cells were empty.
-// Kept out of its caller: its row of numbers takes no stack while the board is made there (decision 42).
+// Kept out of its caller: its row of numbers takes no stack while the board is made there (decision 49).
 #[inline(never)]
 pub fn fill_box(t: &mut [u32], board: &Board, x: usize, y: usize) -> u32
     requires { BoxReady (rows_on board.now) (width_on board.now) (height_on board.now) x y t.old }

@@ -21,6 +21,8 @@ pub struct Piece {
 // The records of a job: as many as it may have pieces.
 pub type Records = [Piece; Job::PIECES_MAX as usize];
 
+// As C lays it out: a count beside its records. C hands it over with any numbers in it, so that no invariant holds of it, and
+// each function says what it needs of `count`.
 #[repr(C)]
 #[derive(Clone, Copy, Debug, Default, PartialEq, Eq, Hash)]
 pub struct Job {

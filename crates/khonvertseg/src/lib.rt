@@ -16,6 +16,8 @@ use job::{Job, Piece};
 use plan::Written;
 use refusals::Refusal;
 
+// The answers as C has them (include/khonvertseg.h): a number beside the values.
+
 // khon_changed
 #[repr(C)]
 #[derive(Clone, Copy, Debug, Default, PartialEq, Eq)]
@@ -159,7 +161,7 @@ pub fn khon_remove(job: Job, cells: &mut [u32], number: u32) -> KhonChanged
     KhonChanged::of(change::remove(job, cells, number), &job)
 }
 
-// Bytes that are no job block get 1 (rule 4.14).
+// Bytes that are no job block get 1 (rule 4.14). As one function with plan_block it would take its call as a closure: longer than both.
 fn ask_block(block: &[u8], cells: &mut [u32], x: u32, y: u32) -> Result<Answer, Refusal>
     ensures { AsksBlock block.now cells.old x y (asked_from result) cells.new }
 {

@@ -22,12 +22,23 @@ use Rattle.plan.proofs.Tracing.{tree_by_rules, tree_dissects}
 use Rattle.plan.proofs.Writing.{sheet_pieces}
 use Rattle.plan.proofs.Exactly.{plan_granted}
 use Rattle.plan.proofs.Answers.{cell_earned, file_short}
-use Rattle.plan.specs.Planning.{Planned, Written}
+use Rattle.plan.specs.Planning.{Planned, Written, planned_from, planned_numbers}
+use Rattle.plan.specs.declared.Written.{Written as Values}
+use Rattle.std.specs.Prelude.{Result, Ok, Err}
+use Rattle.refusals.specs.declared.Refusal.{Refusal}
+use Rattle.refusals.proofs.Numbers.{never_zero, number_only}
 
 -- Two answers that keep the promise are equal (rule 11.2): answer and all bytes.
 pub plan_unique : (job : Job) (t : List ℕ) (x y : ℕ) (o : List ℕ) {r s : Planned} {p q : List ℕ} → PlanPromise job t x y o r p → PlanPromise job t x y o s q
     → (r ≡ s) × (p ≡ q)
 plan_unique job t x y o f g = (f.0 ∙ sym g.0, f.1 ∙ sym g.1)
+
+-- Two answers of the code that are read alike are one.
+pub planned_from_only : (r s : Result Values Refusal) → planned_from r ≡ planned_from s → r ≡ s
+planned_from_only (Ok a) (Ok b) e = λ i. Ok (record { length = (planned_numbers (e i)).length; value = (planned_numbers (e i)).value })
+planned_from_only (Ok a) (Err f) e = absurd (never_zero f (sym (ap (λ (c : Planned). (planned_numbers c).refusal) e)))
+planned_from_only (Err f) (Ok a) e = absurd (never_zero f (ap (λ (c : Planned). (planned_numbers c).refusal) e))
+planned_from_only (Err f) (Err g) e = ap Err (number_only f g (ap (λ (c : Planned). (planned_numbers c).refusal) e))
 
 -- What an answer says of the refusal, the length and the value.
 written_says : {n v bytes value : ℕ} (k : ℕ) → Written n v ≡ planned_with k bytes value → (k ≡ 0) × (n ≡ bytes) × (v ≡ value)

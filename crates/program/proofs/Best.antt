@@ -179,7 +179,8 @@ module _ (block : List ℕ) where
     refused_prints : (n : ℕ) → stand.answer.refusal ≡ suc n → program_text block ≡ refused_text (suc n)
     unfolding entered_text
     refused_prints n e =
-        sym entered_prints ∙ (ap (λ (k : ℕ). text_or k (asked_text stand.answer.job stand.cells)) e ∙ sym (or_refused (suc n) (asked_text stand.answer.job stand.cells) (λ z. omega arith)))
+        let text = asked_text stand.answer.job stand.cells in
+        sym entered_prints ∙ (ap (λ (k : ℕ). text_or k text) e ∙ sym (or_refused (suc n) text (λ z. omega arith)))
 
     open_prints : (n : ℕ) → OpenRefusal a b new_table (suc n) → program_text block ≡ refused_text (suc n)
     unfolding added_all opened

@@ -32,6 +32,7 @@ fn list_for(job: &Job, file: &[u8], text: &mut Text)
         width: usize::from(job.width),
         height: usize::from(job.height),
     };
+    // The nodes are plan's own: they break no rule.
     let _ = list(&nodes, section, text);
 }
 

@@ -19,7 +19,6 @@ pub enum Wanted {
 }
 
 // The next step in a part. A line has its place, what is wanted of its near part, and its direction (true for a horizontal one).
-// In this order a step has 10 bytes: one of 8 is kept in a single word, and the search then takes 9 instructions for a piece in place of 7.
 #[derive(Clone, Copy, Debug, PartialEq, Eq)]
 pub enum Step {
     Scrap,

@@ -27,8 +27,8 @@ fn first_piece<F: Fn(usize, usize) -> bool>(table: &Table, number: usize, suits:
         → F.post suits ((rows_in table.now).width k) ((rows_in table.now).height k) b → b ≡ test k)
         → result ≡ first_piece (rows_in table.now) test number }
 {
-    for k in 0..table.board.count() {
-        let piece = table.board.piece(k);
+    let pieces = table.board.pieces();
+    for (k, piece) in pieces.iter().enumerate() {
         if usize::from(piece.value) == number
             && suits(usize::from(piece.width), usize::from(piece.height))
         {

@@ -1,5 +1,5 @@
 // The tree of a part, step by step: first the length of its nodes, then the nodes. What a level carries is small: 479 may lie one below the other.
-// So a part goes down as plain numbers: tried as a struct of the three, which is copied for each call, a level took 96 bytes of stack in place of 80.
+// So a part goes down as plain numbers: tried as a struct of the three, which is copied for each call, a level took 16 bytes of stack more.
 ghost use Rattle.std.specs.Prelude.{◌≡◌, ◌+◌, ◌≤◌, length};
 ghost use Rattle.fields.specs.Format.{node_length};
 ghost use Rattle.nodes.specs.Encoding.{letter_of, node, encode};

@@ -29,8 +29,9 @@ unfolding planned planned_bytes file_number
 returns-in_err-nodes c =
     let box = c.in_ok-of_box.ensures in
     let none = c.in_err-nodes.ensures in
+    let nodes = sym none.ok_part ∙ c.measure.ensures in
     plan_left _ _ _ _ _ _ c.from_residual-in_err-nodes.ensures.1
-    (file_decides _ _ _ _ _ (readable_of _ _ _ _ box refl) box refl c.of-board.ensures (sym none.ok_part ∙ c.measure.ensures) (ap number (refused_with _ none.value)))
+    (file_decides _ _ _ _ _ (readable_of _ _ _ _ box refl) box refl c.of-board.ensures nodes (ap number (refused_with _ none.value)))
 
 pub of_room-requires : goal.of_room-requires
 of_room-requires c =

@@ -18,18 +18,24 @@ loop-piece-init c =
 
 pub loop-piece-preserved : goal.loop-piece-preserved
 loop-piece-preserved c =
-    let more = begun_more c.args.from.now c.args.cells.now c.loop-piece.piece-index c.loop-piece.invariant.0 c.loop-piece.invariant.1 (piece_read c.args.from.now c.loop-piece.piece-index c.pieces-piece-items.ensures.records c.loop-piece-test.true) in
+    let inv = c.loop-piece.invariant in
+    let piece = piece_read c.args.from.now c.loop-piece.piece-index c.pieces-piece-items.ensures.records c.loop-piece-test.true in
+    let more = begun_more c.args.from.now c.args.cells.now c.loop-piece.piece-index inv.0 inv.1 piece in
     (c.in_ok-job-2.ensures.0 ∙ more.0, c.in_ok-job-2.ensures.1 ∙ more.1)
 
 pub returns-in_err-job-2 : goal.returns-in_err-job-2
 returns-in_err-job-2 c =
-    let more = begun_more c.args.from.now c.args.cells.now c.loop-piece.piece-index c.loop-piece.invariant.0 c.loop-piece.invariant.1 (piece_read c.args.from.now c.loop-piece.piece-index c.pieces-piece-items.ensures.records c.loop-piece-test.true) in
+    let inv = c.loop-piece.invariant in
+    let piece = piece_read c.args.from.now c.loop-piece.piece-index c.pieces-piece-items.ensures.records c.loop-piece-test.true in
+    let more = begun_more c.args.from.now c.args.cells.now c.loop-piece.piece-index inv.0 inv.1 piece in
     let given = c.in_err-job-2.ensures in
-    let both = entered_stopped _ _ (c.loop-piece.piece-index + 1) _ _ (omega arith) (ap (λ k. k.refusal) (given.0 ∙ more.0)) (given.1 ∙ more.1) c.from_residual-in_err-job-2.ensures.1 in
+    let refusal = ap (λ k. k.refusal) (given.0 ∙ more.0) in
+    let both = entered_stopped _ _ (c.loop-piece.piece-index + 1) _ _ (omega arith) refusal (given.1 ∙ more.1) c.from_residual-in_err-job-2.ensures.1 in
     record { answer = both.0; cells_after = both.1 }
 
 pub returns : goal.returns
 unfolding entered
 returns c =
     let all : c.loop-piece.piece-index ≡ c.args.from.now.count = omega (arith, c.pieces-piece-items.ensures.many) in
-    record { answer = c.loop-piece.invariant.0 ∙ ap (λ k. (begun c.args.from.now c.args.cells.now k).answer) all; cells_after = c.loop-piece.invariant.1 ∙ ap (λ k. (begun c.args.from.now c.args.cells.now k).cells) all }
+    let after = ap (begun c.args.from.now c.args.cells.now) all in
+    record { answer = c.loop-piece.invariant.0 ∙ ap (λ s. s.answer) after; cells_after = c.loop-piece.invariant.1 ∙ ap (λ s. s.cells) after }

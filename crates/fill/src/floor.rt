@@ -1,5 +1,6 @@
 // The floor of a row: what each of its cells is worth without a line across. It is found for a whole row at once, piece by
 // piece and line by line, so that the inner loops go along the row.
+// A span of columns is two numbers, from and x: a struct of them would be taken apart in every loop and made anew for each piece.
 ghost use Rattle.std.specs.Prelude.{◌≡◌, ◌≤◌, ◌<◌, max, get_or};
 ghost use Rattle.cutting.specs.Limits.{side_max};
 ghost use Rattle.board.specs.Inner.{width_on};

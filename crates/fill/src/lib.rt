@@ -31,6 +31,7 @@ fn fill_cell(t: &mut [u32], board: &Board, u: usize, w: usize, floor: u32) -> u3
 }
 
 // A column of row w before which no cell is empty: the first empty one, or the one after x.
+// x + 1 is the column after x and no code for "none": from there on nothing is filled.
 fn first_empty(t: &[u32], board: &Board, x: usize, w: usize) -> usize
     requires { Holds (width_on board.now) w t.now × (x ≤ width_on board.now) }
     ensures { FullBefore (width_on board.now) t.now x w result }

@@ -1,5 +1,5 @@
 // Where a cell or a row of the sheet on a board lies in the table: the one look-up. Everyone else says (x, y).
-// Table and board stay two parameters, for the reason that cells gives.
+// The row of cells and the board stay two parameters, for the reason that cells gives.
 ghost use Rattle.std.specs.Prelude.{◌≡◌, ◌≤◌, set};
 ghost use Rattle.cutting.specs.Piece.{Inside};
 ghost use Rattle.cells.specs.Cells.{cell_of, place};

@@ -57,6 +57,7 @@ pub struct KhonChecked {
 
 impl KhonChanged {
     // The job after the change, or the refusal's number and the job that is left.
+    // Not From: the job that is left comes from the caller.
     fn of(answer: Result<Job, Refusal>, left: &Job) -> KhonChanged
         ensures { result ≡ flat_changed (changed_from left.now answer) }
     {
@@ -70,6 +71,7 @@ impl KhonChanged {
     }
 }
 
+// Three impls, since each answer has fields of its own.
 impl From<Result<Answer, Refusal>> for KhonAsked {
     ghost from_gives = { λ answer r. r ≡ flat_asked (asked_from answer) };
 

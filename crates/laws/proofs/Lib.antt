@@ -9,7 +9,6 @@ pub mod Wrote
 pub mod Depth
 pub mod Placed
 pub mod Sums
-pub mod Filled
 pub mod Tests
 pub mod First
 pub mod Choice

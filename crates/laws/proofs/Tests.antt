@@ -1,9 +1,7 @@
 -- Early returns with one test each, and the chain of tests, joined by &&, that they answer.
-use Prim.Native.Nat.{ℕ, ◌+◌, ◌≤◌, ◌<◌}
+use Prim.Native.Nat.{ℕ, ◌+◌, ◌<◌}
 use mathlib.Core.Bool.{Bool, true, false, not, ◌&&◌}
 use mathlib.Core.Path.{◌≡◌, refl, sym, ap, ap₂, ◌∙◌}
-use lib.Dec.{leb}
-use borrow.Author.Tests.{le-leb, lt-leb}
 use Rattle.laws.specs.Inner.{Says, all_below}
 use Rattle.laws.proofs.Says.{true≢false, says_no}
 use Rattle.laws.proofs.Below.{all_below_more, all_below_says}
@@ -16,21 +14,7 @@ pub not_false : {b : Bool} → not b ≡ false → b ≡ true
 not_false {b = true} e = refl
 not_false {b = false} e = sym e
 
--- The code left because its test of b failed (d are the tests that were to come), or went on because it held.
-pub and_no : {b r : Bool} (d : Bool) → r ≡ b → r ≡ false → false ≡ (b && d)
-and_no d e h = ap (λ (a : Bool). a && d) (sym (sym e ∙ h))
-
-pub and_yes : {b d r s : Bool} → r ≡ b → r ≡ true → s ≡ d → s ≡ (b && d)
-and_yes {b} {d} e h f = f ∙ ap (λ (a : Bool). a && d) (sym (sym e ∙ h))
-
--- The same where the test is of two numbers.
-pub le_no : {m n : ℕ} (d : Bool) → n < m → false ≡ (leb m n && d)
-le_no {m} {n} d h = ap (λ (a : Bool). a && d) (sym (lt-leb m n h))
-
-pub le_yes : {m n : ℕ} {d s : Bool} → m ≤ n → s ≡ d → s ≡ (leb m n && d)
-le_yes {m} {n} {d} h f = f ∙ ap (λ (a : Bool). a && d) (sym (le-leb m n h))
-
--- The same where the test stands for a fact.
+-- The code left because its test failed (d are the tests that were to come), or went on because it held: here the test stands for a fact.
 pub fact_no : {b : Bool} {P : Type 0} → Says b P → (d : Bool) → (P → ⊥) → false ≡ (b && d)
 fact_no s d h = ap (λ (a : Bool). a && d) (sym (says_no s h))
 

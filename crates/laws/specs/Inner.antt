@@ -1,6 +1,5 @@
 -- Tests, searches and rows that compute, for contracts inside the engine and for proofs; nobody has to believe them.
 use Rattle.std.specs.Prelude.{ℕ, zero, suc, max, ◌+◌, ◌≤◌, ◌<◌, Bool, true, false, not, ◌&&◌, ◌||◌, cond, ◌≡◌, List, [], ◌∷◌, ◌⊎◌, ltb, eqb, length}
-use Rattle.laws.specs.ByIndex.{by_index}
 use Rattle.laws.specs.Put.{put}
 use Rattle.laws.specs.Refusal.{Row, number_of, Passes, Stops}
 
@@ -27,12 +26,6 @@ any_below f (suc n) = any_below f n || f n
 unfoldable pub all_below : (ℕ → Bool) → ℕ → Bool
 all_below f zero = true
 all_below f (suc n) = all_below f n && f n
-
--- A row that is filled from its start.
-
--- The row of n elements that has f 0, …, f (i − 1) and then z.
-unfoldable pub filled_row {ℓ} : {A : Type ℓ} → (ℕ → A) → A → ℕ → ℕ → List A
-filled_row f z i n = by_index (λ k. cond (ltb k i) (f k) z) n
 
 -- The first number below n that passes a test.
 

@@ -87,9 +87,6 @@ printed_both {o} {p} {q} {at} {m} {n} e f v w = record { place = place; bytes = 
     bytes : q ≡ put o at (fitting o at (e ++ f))
     bytes = w.bytes ∙ (ap₂ (λ (l : List ℕ) (k : ℕ). put l k (fitting p m f)) v.bytes v.place ∙ (joined ∙ ap (put o at) all))
 
-pub printed_as : {o p : List ℕ} {at n : ℕ} {e f : List ℕ} → e ≡ f → Printed o at e n p → Printed o at f n p
-printed_as {o} {p} {at} {n} g w = subst (λ (l : List ℕ). Printed o at l n p) g w
-
 -- Nothing written.
 pub printed_nothing : (o : List ℕ) (at : ℕ) → Printed o at [] at o
 unfolding fitting

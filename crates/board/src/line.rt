@@ -1,4 +1,4 @@
-// What a line leaves. A tall line is a horizontal one: it goes through the height.
+// What a line leaves. A tall line is a horizontal one: it goes through the height; `tall` is a bool as in `Tree.line` (cutting/specs/Tree).
 ghost use Rattle.std.specs.Prelude.{◌≡◌, ◌≤◌};
 ghost use Rattle.cutting.specs.Dissection.{rest as rest_of, crossed as crossed_of, part_width, part_height};
 

@@ -1,11 +1,12 @@
 // The job block: width, height, n, then width, height and value of every piece, two bytes each.
-ghost use Rattle.std.specs.Prelude.{◌≡◌, ◌+◌, ◌≤◌, length};
+ghost use Rattle.std.specs.Prelude.{◌≡◌, ◌+◌, ◌≤◌, ◌++◌, length};
 ghost use Rattle.laws.specs.Put.{put};
 ghost use Rattle.laws.specs.ByIndex.{by_index};
 ghost use Rattle.cutting.specs.Limits.{pieces_max};
-ghost use Rattle.job.specs.Job.{piece_of, record_of, pieces_of};
-ghost use Rattle.job.specs.Block.{block_length, piece_from, piece_in, bytes_of_piece, bytes_of_head, bytes_of_pieces, block};
+ghost use Rattle.job.specs.Job.{record_of, pieces_of};
+ghost use Rattle.job.specs.Block.{block_length, piece_from, piece_in, bytes_of_pieces, block};
 ghost use Rattle.fields.specs.Format.{head_bytes, piece_bytes};
+ghost use Rattle.fields.specs.Number.{bytes2};
 ghost use Rattle.job.specs.Inner.{records_of, from_block};
 
 use crate::{Job, Piece, Records};
@@ -67,22 +68,14 @@ pub fn from_block(s: &[u8]) -> Option<Job>
     })
 }
 
-fn put_block_head(o: &mut [u8], width: u16, height: u16, count: u16)
-    requires { head_bytes ≤ length o.old }
-    ensures { o.new ≡ put o.old 0 (bytes_of_head width height count) }
-{
-    width.put(o, 0);
-    height.put(o, SECOND_NUMBER);
-    count.put(o, THIRD_NUMBER);
-}
-
-fn put_piece(o: &mut [u8], at: usize, piece: Piece)
+// Writes three numbers, which the head of a block has, and each piece.
+fn put_three(o: &mut [u8], at: usize, first: u16, second: u16, third: u16)
     requires { at + piece_bytes ≤ length o.old }
-    ensures { o.new ≡ put o.old at (bytes_of_piece (piece_of piece)) }
+    ensures { o.new ≡ put o.old at (bytes2 first ++ (bytes2 second ++ bytes2 third)) }
 {
-    piece.width.put(o, at);
-    piece.height.put(o, at + SECOND_NUMBER);
-    piece.value.put(o, at + THIRD_NUMBER);
+    first.put(o, at);
+    second.put(o, at + SECOND_NUMBER);
+    third.put(o, at + THIRD_NUMBER);
 }
 
 // Writes the pieces of a job behind the head of its block.
@@ -92,7 +85,7 @@ fn put_pieces(o: &mut [u8], job: &Job)
     ensures { o.new ≡ put o.old head_bytes (bytes_of_pieces (pieces_of job.now)) }
 {
     for (k, piece) in job.pieces().iter().enumerate() {
-        put_piece(o, block_length(k), *piece);
+        put_three(o, block_length(k), piece.width, piece.height, piece.value);
     }
 }
 
@@ -102,6 +95,6 @@ pub fn put_block(o: &mut [u8], width: u16, height: u16, job: &Job)
     requires room { block_length job.now.count ≤ length o.old }
     ensures { o.new ≡ put o.old 0 (block width height (pieces_of job.now)) }
 {
-    put_block_head(o, width, height, job.count);
+    put_three(o, 0, width, height, job.count);
     put_pieces(o, job);
 }

@@ -9,7 +9,7 @@ use crate::{Kind, Section};
 use printing::Text;
 
 impl Kind {
-    // The kind of a line.
+    // The kind of a line. Not From: that of a bool would not say of what.
     pub(crate) fn of_line(tall: bool) -> Kind
         ensures { result ≡ kind_of tall }
     {

@@ -48,7 +48,7 @@ fn write_node(o: &mut [u8], at: usize, letter: u8, number: u16) -> usize
     at + NODE_LENGTH
 }
 
-// The letter of a line.
+// The letter of a line. A function, since From of a bool would not say of what.
 fn letter_of(tall: bool) -> u8
     ensures { result ≡ letter_of tall }
 {

@@ -1,6 +1,14 @@
 // What plan refuses, row by row: the table and the box, then the file's length.
 // Each goal is about what a list of refusals computes.
-#![tactic(auto, unfolding(crate::specs::Inner::box_refused, crate::specs::Refusals::plan_refusals, crate::specs::Inner::plan_tests, crate::specs::Inner::file_number, desk::specs::Inner::job_refused, desk::specs::Inner::job_refusals, desk::specs::Inner::job_tests, laws::specs::Inner::number_given,))]
+#![tactic(auto, unfolding(
+// the box
+crate::specs::Inner::box_refused, crate::specs::Refusals::plan_refusals, crate::specs::Inner::plan_tests,
+// the file
+crate::specs::Inner::file_number,
+// a job
+desk::specs::Inner::job_refused, desk::specs::Inner::job_refusals, desk::specs::Inner::job_tests,
+// what a list gives
+laws::specs::Inner::number_given))]
 
 ghost use Rattle.std.specs.Prelude.{◌≡◌, ◌≤◌, Some};
 ghost use Rattle.refusals.specs.Refusals.{refused};

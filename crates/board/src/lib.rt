@@ -17,7 +17,7 @@ pub const MARKS: usize = Job::SIDE_MAX as usize + 1;
 pub type Marks = [bool; MARKS];
 
 // What the engine reads of a job besides the cells.
-#[derive(Drop)]
+#[derive(Clone, Copy)]
 pub struct Board {
     width: u16,
     height: u16,

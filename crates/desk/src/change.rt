@@ -53,8 +53,9 @@ pub fn add(job: Job, t: &mut [u32], piece: Piece) -> Result<Job, Refusal>
     ensures { AddPromise job t.old piece (changed_from job result) t.new }
 {
     refusal::of_add(&job, t, piece)?;
+    let after = job.with_added(piece);
     empty_size(&job, t, piece);
-    Ok(job.with_added(piece))
+    Ok(after)
 }
 
 // Puts another record in the place of piece `number`. What the old size or the new one could touch is forgotten.

@@ -110,6 +110,34 @@ module _ (job : Job) {tidy : Job} (e : tidy ≡ job_of job.width job.height (pie
       (ap record_of (sym (corrected_same pieces number (piece_of new) (omega arith))))
       (λ k other. sym (corrected_other pieces number (piece_of new) k other)))
 
+-- The job whose records have one more.
+pub grown_done : (job : Job) (new : Record) {n : ℕ} {r : Job} → length job.pieces ≡ pieces_max → job.count < pieces_max → n ≡ job.count
+    → r ≡ job_of job.width job.height (pieces_of (record { width = job.width; height = job.height; count = job.count + 1; pieces = set job.pieces n new }))
+    → r ≡ with_added job new
+unfolding with_added pieces_of
+grown_done job new {n} full room f e =
+    e ∙ ap (job_of job.width job.height) same
+  where
+    records : List Record
+    records = set job.pieces n new
+
+    long : length (pieces_of job) ≡ job.count
+    long = pieces-length job
+
+    piece_at : (k : ℕ) → (k ≡ job.count) ⊎ (k < job.count) → piece_of (get_or records k no_record) ≡ get_or (added (pieces_of job) (piece_of new)) k no_piece
+    piece_at k (inl q) =
+        ap piece_of (ap (λ (i : ℕ). get_or records i no_record) (q ∙ sym f) ∙ get_or-set_same job.pieces n new no_record (omega arith))
+        ∙ sym (ap (λ (i : ℕ). get_or (added (pieces_of job) (piece_of new)) i no_piece) (q ∙ sym long) ∙ added_last (pieces_of job) (piece_of new))
+    piece_at k (inr l) =
+        ap piece_of (get_or-set_other job.pieces n k new no_record (λ q. omega arith))
+        ∙ (sym (pieces_at job k l) ∙ sym (added_at (pieces_of job) (piece_of new) k (omega (arith, long))))
+
+    same : pieces_of (record { width = job.width; height = job.height; count = job.count + 1; pieces = records }) ≡ added (pieces_of job) (piece_of new)
+    same =
+        sym (is_by_index (λ k. piece_of (get_or records k no_record)) (job.count + 1) (added (pieces_of job) (piece_of new)) no_piece
+        (added-length (pieces_of job) (piece_of new) ∙ omega (arith, long))
+        (λ k l. sym (piece_at k (last_or_below (omega arith)))))
+
 -- The job whose records behind one of them were moved one number down.
 pub removed_done : (job : Job) (number : ℕ) (records : List Record) {n : ℕ} {r : Job} → 1 ≤ number → number ≤ job.count → n ≡ job.count - 1
     → SameBelow job.pieces records (number - 1)

@@ -17,15 +17,13 @@ impl Job {
         self
     }
 
-    pub fn with_added(self, piece: Piece) -> Job
+    pub fn with_added(mut self, piece: Piece) -> Job
         requires { self.count < pieces_max }
         ensures { result ≡ with_added self piece }
     {
-        let count = usize::from(self.count);
-        let mut job = self.tidied();
-        job.pieces[count] = piece;
-        job.count += 1;
-        job
+        self.pieces[usize::from(self.count)] = piece;
+        self.count += 1;
+        self.tidied()
     }
 
     pub fn with_corrected(self, number: u32, piece: Piece) -> Job
@@ -44,7 +42,8 @@ impl Job {
         ensures { result ≡ with_removed self number }
     {
         let behind = number as usize;
-        self.pieces.copy_within(behind.., behind - 1);
+        let count = usize::from(self.count);
+        self.pieces.copy_within(behind..count, behind - 1);
         self.count -= 1;
         self.tidied()
     }

@@ -10,4 +10,4 @@ returns-in_err-of_add c = change_left _ _ _ _ _ _ c.from_residual.ensures.1 c.in
 
 pub returns : goal.returns
 unfolding added_job added_cells
-returns c = change_given _ _ c.in_ok-of_add.ensures refl c.with_added.ensures c.empty_size.ensures
+returns c = change_given _ _ c.in_ok-of_add.ensures refl c.with_added-after.ensures c.empty_size.ensures

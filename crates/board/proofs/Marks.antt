@@ -1,7 +1,7 @@
 -- A mark is a point: of P where the sizes are the widths, and of Q, which is P of the turned lay, where they are the heights.
 use Prim.Native.Nat.{ℕ, ◌≤◌, ◌<◌}
 use mathlib.Core.Bool.{Bool, true, false}
-use mathlib.Core.Path.{◌≡◌, refl, sym, ◌∙◌}
+use mathlib.Core.Path.{◌≡◌, refl, sym, ap, ◌∙◌}
 use mathlib.Core.List.{List}
 use mathlib.Core.Logic.{◌≢◌, ◌↔◌}
 use native.Mathlib.Omega.{arith}
@@ -16,7 +16,7 @@ use Rattle.cutting.specs.Limits.{side_max}
 use Rattle.cutting.specs.Piece.{Lay}
 use Rattle.cutting.specs.Points.{Width, Sum, one, more, P}
 use Rattle.board.specs.Inner.{Size, reaches, is_point, mark_at, mark_count, mark_row, marks_of}
-use Rattle.board.proofs.Reaches.{reaches_least, reaches_says}
+use Rattle.board.proofs.Reaches.{reaches_least, reaches_says, reaches_sizes}
 
 -- The row of marks of a test.
 module _ (test : ℕ → Bool) where
@@ -58,9 +58,20 @@ module _ (size : ℕ → ℕ) (n side : ℕ) where
       within true s = record { means = λ e. (s.means refl, e); found = λ h. h.1 }
       within false s = record { means = λ e. absurd (true≢false (sym e)); found = λ h. s.found h.0 }
 
+  pub marks_of-length : length (marks_of size n side) ≡ mark_count
+  unfolding marks_of
+  marks_of-length = mark_row-length (is_point size n side)
+
   pub marks_of_at : (c : ℕ) → c ≤ side_max → mark_at (marks_of size n side) c ≡ is_point size n side c
   unfolding marks_of
   marks_of_at = mark_row_at (is_point size n side)
+
+-- Only the first n sizes count.
+pub marks_of_sizes : (size other : ℕ → ℕ) (n side : ℕ) → ((k : ℕ) → k < n → size k ≡ other k) → marks_of size n side ≡ marks_of other n side
+unfolding marks_of is_point
+marks_of_sizes size other n side same =
+    mark_row_same (is_point size n side) (is_point other n side)
+    (λ c. ap (λ (b : Bool). elim (leb c side) as (λ x. Bool) [ true ↦ b | false ↦ false ]) (reaches_sizes size other n same c))
 
 -- The sums of the same sizes are the same.
 pub sum_over : (S R : ℕ → Type 0) → ((p : ℕ) → S p → R p) → (c : ℕ) → Sum S c → Sum R c

@@ -34,6 +34,13 @@ module _ (made : ℕ → Bool) (step : ℕ → ℕ) where
   abbrev pub Unled : ℕ → ℕ → Type 0
   Unled j c = Led (λ m. made m ≡ true) step j c → ⊥
 
+  pub unled_more : (j c : ℕ) {g : ℕ} → Unled j c → g ≡ step j → (made (c - g) ≡ true → ⊥) → Unled (j + 1) c
+  unled_more j c none e new l =
+      ⊎_elim
+      (λ q. new (ap (λ (s : ℕ). made (c - s)) (e ∙ sym (ap step q)) ∙ l.leaves))
+      (λ b. none (led_among l b))
+      (last_or_below {k = l.index} {n = j} (omega (arith, l.among)))
+
   -- A step that is too large for c ends the search: the later ones are larger.
   pub unled_stop : (held j c : ℕ) → Rising step held → Unled j c → c < tried_from (step j) → Unled held c
   unled_stop held j c rising none h l =

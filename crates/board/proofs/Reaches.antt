@@ -1,8 +1,8 @@
 -- `reaches` is true exactly of the sums of one or more sizes, each as often as one likes.
 use Prim.Native.Nat.{ℕ, zero, suc, ◌+◌, ◌-◌, ◌≤◌, ◌<◌}
 use mathlib.Core.Bool.{Bool, true, false}
-use mathlib.Core.Path.{◌≡◌, refl, sym, ◌∙◌}
-use mathlib.Core.List.{[]}
+use mathlib.Core.Path.{◌≡◌, refl, sym, ap, ◌∙◌}
+use mathlib.Core.List.{List, [], ◌∷◌, ◌++◌}
 use mathlib.Core.Logic.{◌⊎◌, inl, inr, ⊎_elim}
 use native.Mathlib.Omega.{arith}
 use native.Mathlib.Nat.{eq-or-lt_of_le}
@@ -10,11 +10,17 @@ use lib.ListN.{length, get_or, length-append, get_or-eq_default, get_or-append}
 use lib.Seq.{get_or_at}
 use Rattle.laws.specs.Inner.{Says}
 use Rattle.laws.proofs.Says.{true≢false, says_itself, says_iff, says_lt, says_eq, says_and, says_or}
-use Rattle.laws.proofs.Below.{any_below_says}
+use Rattle.laws.proofs.Below.{any_below_says, any_below_same}
 use Rattle.laws.proofs.Order.{le_or_lt}
 use Rattle.cutting.specs.Points.{Sum, one, more}
 use Rattle.cutting.proofs.Points.{Apart, sum_apart}
 use Rattle.board.specs.Inner.{Size, makes, some_makes, reaches_up_to, reaches}
+
+-- Only the first n sizes count.
+some_makes_sizes : (made : ℕ → Bool) (size other : ℕ → ℕ) (n c : ℕ) → ((k : ℕ) → k < n → size k ≡ other k)
+    → some_makes made size n c ≡ some_makes made other n c
+unfolding some_makes
+some_makes_sizes made size other n c h = any_below_same _ _ n (λ k b. ap (λ (s : ℕ). makes made s c) (h k b))
 
 -- 0 is no point (rule 3.3).
 reaches_zero : (size : ℕ → ℕ) (n : ℕ) → reaches size n 0 ≡ false
@@ -60,6 +66,19 @@ makes_says made s c = says_or (says_eq s c) (says_and (says_lt s c) (says_itself
 some_makes_says : (made : ℕ → Bool) (size : ℕ → ℕ) (n c : ℕ) → Says (some_makes made size n c) ((k : ℕ) × (k < n) × (makes made (size k) c ≡ true))
 unfolding some_makes
 some_makes_says made size n c = any_below_says (λ k. makes made (size k) c) n
+
+-- Only the first n sizes count.
+module _ (size other : ℕ → ℕ) (n : ℕ) (same : (k : ℕ) → k < n → size k ≡ other k) where
+  up_to_sizes : (c : ℕ) → reaches_up_to size n c ≡ reaches_up_to other n c
+  unfolding reaches_up_to
+  up_to_sizes zero = refl
+  up_to_sizes (suc c) =
+      (λ i. up_to_sizes c i ++ (some_makes (λ m. get_or (up_to_sizes c i) m false) size n (suc c) ∷ []))
+      ∙ ap (λ (b : Bool). reaches_up_to other n c ++ (b ∷ [])) (some_makes_sizes (λ m. get_or (reaches_up_to other n c) m false) size other n (suc c) same)
+
+  pub reaches_sizes : (c : ℕ) → reaches size n c ≡ reaches other n c
+  unfolding reaches
+  reaches_sizes c = ap (λ (l : List Bool). get_or l c false) (up_to_sizes c)
 
 -- How c is reached: by a size that is c, or by a size and a smaller number that is reached.
 data Reached (size : ℕ → ℕ) (n c : ℕ) : Type 0 where

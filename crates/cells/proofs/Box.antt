@@ -116,6 +116,16 @@ any_in_rows x y test = listed (λ w. any_in_row x w test) 1 y ∙ any_below_same
         ap₂ ◌||◌ (ap f (omega arith)) (listed f (k + 1) n ∙ any_below_same (λ j. f (k + 1 + j)) (λ j. f (k + suc j)) n (λ j h. ap f (omega arith)))
         ∙ sym (first (λ j. f (k + j)) n)
 
+pub any_in_box_more : (x j : ℕ) (test : ℕ → ℕ → Bool) → any_in_box x j test ≡ false → any_in_row x (j + 1) test ≡ false → any_in_box x (j + 1) test ≡ false
+unfolding any_in_box
+any_in_box_more x j test e f =
+    any_below_more (λ k. any_in_row x (suc k) test) j ∙ ap₂ ◌||◌ e (ap (λ w. any_in_row x w test) (sym (add-one j)) ∙ f)
+
+pub any_in_box_found : (x : ℕ) {j y : ℕ} (test : ℕ → ℕ → Bool) → j < y → any_in_row x (j + 1) test ≡ true → any_in_box x y test ≡ true
+unfolding any_in_box
+any_in_box_found x {j} {y} test h e =
+    (any_below_says (λ k. any_in_row x (suc k) test) y).found (j, h, ap (λ w. any_in_row x w test) (sym (add-one j)) ∙ e)
+
 pub count_in_row_more : (i : ℕ) {u : ℕ} (w : ℕ) (test : ℕ → ℕ → Bool) → u ≡ i + 1 → count_in_row u w test ≡ count_in_row i w test + counted (test u w)
 unfolding count_in_row
 count_in_row_more i {u} w test next =

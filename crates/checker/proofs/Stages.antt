@@ -8,10 +8,11 @@ use Rattle.std.proofs.lemmas.Option.{cond_some, none-some}
 use mathlib.Core.List.{List}
 use native.Mathlib.Omega.{arith}
 use native.Mathlib.Nat.{mul-le-mul}
-use lib.Dec.{eqb}
-use lib.ListN.{length, take, drop}
+use lib.Dec.{leb, eqb}
+use lib.ListN.{length, take, drop, length-take}
 use Rattle.laws.specs.Inner.{Says}
 use Rattle.laws.proofs.Says.{says_no, says_and, says_le, says_eq, says_iff}
+use Rattle.laws.proofs.Tests.{fact_yes}
 use Rattle.cutting.specs.Limits.{side_max}
 use Rattle.cutting.specs.Piece.{Piece}
 use Rattle.fields.specs.Number.{number4_of}
@@ -45,6 +46,13 @@ framed_says file =
     (says_and (says_le file_least (length file)) (says_and (says_le (length file) file_most)
     (says_and (says_le distance_least (block_distance file)) (says_le (block_distance file) (trailer_at file)))))
 
+pub framed_last : (file : List ℕ) {d at : ℕ} → file_least ≤ length file → length file ≤ file_most → distance_least ≤ d → d ≡ block_distance file
+    → at ≡ trailer_at file → leb d at ≡ framed file
+unfolding framed
+framed_last file least most h e f =
+    let near : distance_least ≤ block_distance file = omega arith in
+    fact_yes (says_le _ _) least (fact_yes (says_le _ _) most (fact_yes (says_le _ _) near (ap₂ leb e f)))
+
 -- 10
 pub sum_says : (file : List ℕ) → Says (sum_agrees file) (sum_of (summed_bytes file) ≡ stated_sum file)
 unfolding sum_agrees
@@ -71,16 +79,23 @@ pub record Agreed (file : List ℕ) (job : Job) : Type 0 where
   pub shape : BlockShape (block_bytes file)
   pub same : job ≡ job_in (block_bytes file)
   pub range : JobInRange job
+  pub behind : Framed file → nodes_distance file ≤ trailer_at file
 
 pub agreed_tells : (file : List ℕ) {job : Job} → agreed (from_block (block_bytes file)) ≡ Some job → Agreed file job
-unfolding agreed from_block
+unfolding agreed from_block block_bytes
 agreed_tells file {job} h = go (block_shape (block_bytes file)) refl
   where
     go : (b : Bool) → block_shape (block_bytes file) ≡ b → Agreed file job
     go true e =
         let s = block_bytes file in
         let both = cond_some (job_in_range (job_in s)) (job_in s) job (rw e at h) in
-        record { shape = (shape_says s).means e; same = sym both.1; range = subst JobInRange both.1 ((job_says (job_in s)).means both.0) }
+        let shape = (shape_says s).means e in
+        record {
+          shape = shape;
+          same = sym both.1;
+          range = subst JobInRange both.1 ((job_says (job_in s)).means both.0);
+          behind = λ f. omega (arith, shape.head, f.inside, length-take (block_distance file - nodes_distance file) (drop (note_length file) file));
+        }
     go false e = absurd (none-some job (rw e at h))
 
 pub filtered : (o r : Option Job) {P : Job → Bool → Type 0} → ((x : Job) (b : Bool) → P x b → b ≡ job_in_range x)

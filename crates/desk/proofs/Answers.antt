@@ -1,11 +1,13 @@
 -- How a call joins its refusal and its work, over the definitions.
-use Prim.Native.Nat.{ℕ, zero, suc}
+use Prim.Native.Nat.{ℕ, zero, suc, ◌≤◌}
 use mathlib.Core.Bool.{◌||◌}
 use mathlib.Core.List.{List}
 use mathlib.Core.Path.{◌≡◌, refl, sym, ap, ap₂, ◌∙◌}
+use native.Mathlib.Omega.{arith}
+use lib.ListN.{length}
 use Rattle.cells.specs.Cells.{cell_of}
 use Rattle.cells.specs.Inner.{fits, emptied_where}
-use Rattle.cells.proofs.Emptied.{emptied_twice}
+use Rattle.cells.proofs.Emptied.{emptied-length, emptied_twice}
 use Rattle.job.specs.declared.Piece.{Piece as Record}
 use Rattle.job.specs.declared.Job.{Job}
 use Rattle.std.specs.Prelude.{Result, Ok, Err, IsErrAnd}
@@ -44,6 +46,11 @@ pub change_given : {r refusal : ℕ} {after job : Job} {t' cells : List ℕ} (le
     → (◌≡◌ {A = Changed} (record { refusal = 0; job = job }) (changed refusal after left)) × (t' ≡ accepted refusal cells t)
 change_given {after = after} {cells = cells} left t e z f g =
     (λ i. record { refusal = (sym z ∙ e) i; job = (f ∙ given after left e z) i }, g ∙ given cells t e z)
+
+pub usable_still : (job : Job) (size : Record) (t : List ℕ) {t' : List ℕ} → t' ≡ emptied_size job size t → Usable job t → Usable job t'
+unfolding emptied_size
+usable_still job size t e u =
+    record { range = u.range; room = omega (arith, u.room, ap length e, emptied-length job.width job.height size.width size.height t) }
 
 -- The old size and then the new one: the cells where either fits.
 pub emptied_both : (job : Job) (old new : Record) (t : List ℕ) {first next : List ℕ} → Usable job t → first ≡ emptied_size job old t

@@ -17,12 +17,12 @@ use Rattle.cutting.specs.Limits.{side_max, pieces_max}
 use Rattle.cutting.specs.Piece.{Inside}
 use Rattle.cells.specs.Cells.{cell_of}
 use Rattle.cells.specs.Inner.{exceeds, any_in_box, Holds}
-use Rattle.cells.proofs.Places.{holds_lower}
+use Rattle.cells.proofs.Places.{area_fits, holds_lower}
 use Rattle.cells.proofs.Box.{any_in_box_says, exceeds_says}
 use Rattle.fill.specs.Filled.{Bounded}
 use Rattle.job.specs.declared.Piece.{Piece as Record}
 use Rattle.job.specs.declared.Job.{Job}
-use Rattle.job.specs.Inner.{within}
+use Rattle.job.specs.Inner.{within, job_in_range}
 use Rattle.job.proofs.Range.{within_says, piece_says, job_says}
 use Rattle.refusals.specs.Refusals.{bad_job, short_table}
 use Rattle.desk.specs.Refusals.{cells_of, Usable, IsNumber, open_refusals, add_refusals, correct_refusals, remove_refusals, ask_refusals, OpenRefusal, AddRefusal, RemoveRefusal, CorrectRefusal, AskRefusal}
@@ -44,6 +44,17 @@ bounded_says a t x y =
       (λ b k. let m = (exceeds_says a t k.0 k.1).means k.3 in omega (arith, b k.0 k.1 k.2 m.0, m.1)),
     )
     (says_not (any_in_box_says x y (exceeds a t)))
+
+-- A job in range has a sheet of at most 240 by 240 cells.
+pub sides_fit : (job : Job) {r : Bool} {m n : ℕ} → r ≡ job_in_range job → r ≡ true → m ≡ job.width → n ≡ job.height → m * n ≤ side_max * side_max
+sides_fit job e h f g =
+    let range = (job_says job).means (sym e ∙ h) in
+    area_fits (omega (arith, range.width_most)) (omega (arith, range.height_most))
+
+pub open_fits : (a b : ℕ) {r : Bool} → r ≡ (within a side_max && within b side_max) → r ≡ true → a * b ≤ side_max * side_max
+open_fits a b e h =
+    let i = (inside_says a b side_max side_max).means (sym e ∙ h) in
+    area_fits i.width_most i.height_most
 
 -- The tests of each call say the facts of its list, so that the number it computes is exactly the one that the list gives.
 

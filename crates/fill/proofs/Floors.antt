@@ -2,35 +2,66 @@
 use Prim.Native.Nat.{ℕ, ◌+◌, ◌/◌, ◌≤◌, ◌<◌, max}
 use mathlib.Core.Bool.{Bool, true, false, cond, ◌&&◌}
 use mathlib.Core.List.{List}
-use mathlib.Core.Path.{◌≡◌, refl, sym, ap, ◌∙◌}
+use mathlib.Core.Path.{◌≡◌, refl, sym, ap, ap₂, ◌∙◌, subst}
 use native.Mathlib.Omega.{arith}
+use native.Mathlib.Decide.{ℕ_discrete}
 use lib.Dec.{leb, ltb}
-use lib.ListN.{length, get_or, replicate, get_or-eq_default}
+use lib.ListN.{length, get_or, set, replicate, get_or-eq_default}
+use lib.Seq.{get_or-set_same, get_or-set_other}
 use mathlib.Core.Logic.{⊎_elim}
 use Rattle.std.proofs.lemmas.List.{get_or-replicate, length-replicate}
 use Rattle.laws.proofs.Order.{le_or_lt}
 use Rattle.laws.specs.Inner.{Says}
-use Rattle.laws.proofs.Says.{says_and, says_le, says_false}
-use Rattle.cutting.specs.Piece.{Fits}
+use Rattle.laws.proofs.Says.{says_and, says_le, says_lt, says_iff, says_same, says_no, says_false}
+use Rattle.cutting.specs.Piece.{Fits, Inside}
 use Rattle.cutting.specs.Dissection.{rest}
 use Rattle.job.specs.declared.Piece.{Piece as Record}
 use Rattle.job.specs.Job.{no_record}
 use Rattle.board.specs.declared.Board.{Board}
 use Rattle.board.specs.Inner.{records_on, width_at, height_at, value_at}
 use Rattle.board.proofs.Laid.{record_on}
-use Rattle.cells.specs.Inner.{fits}
+use Rattle.cells.specs.Cells.{cell_of}
+use Rattle.cells.specs.Inner.{Holds, fits}
 use Rattle.cells.proofs.Emptied.{fits_says}
-use Rattle.fill.specs.Inner.{fitting_value, line_at, line_value, value_in, Raises, Columns, floor_by}
+use Rattle.cells.proofs.Places.{holds_lower}
+use Rattle.fill.specs.Inner.{fitting_value, line_at, line_value, value_in, Raises, Columns, LinesUp, floor_by}
 use Rattle.fill.proofs.Steps.{lines_up_to, lines_none, lines_more, lines_end, fitting_none, fitting_more}
 
 -- The columns from..u − 1 have been raised to g.
 pub record RaisedTo (from u : ℕ) (g : ℕ → ℕ) (f f' : List ℕ) : Type 0 where
   pub at : (j : ℕ) → get_or f' j 0 ≡ cond (leb from j && ltb j u) (max (get_or f j 0) (g j)) (get_or f j 0)
 
+flag_says : (from j u : ℕ) → Says (leb from j && ltb j u) ((from ≤ j) × (j < u))
+flag_says from j u = says_and (says_le from j) (says_lt j u)
+
 module _ (from : ℕ) (g : ℕ → ℕ) (f : List ℕ) where
   -- What column j holds, by whether it has been raised.
   abbrev raised : ℕ → Bool → ℕ
   raised j b = cond b (max (get_or f j 0) (g j)) (get_or f j 0)
+
+  pub raised_none : RaisedTo from from g f f
+  raised_none = record { at = λ j. ap (raised j) (sym (says_no (flag_says from j from) (λ h. omega arith))) }
+
+  pub raised_more : (u : ℕ) {f' : List ℕ} {here v : ℕ} → from ≤ u → u < length f' → RaisedTo from u g f f' → here ≡ g u → v ≡ max (get_or f' u 0) here
+      → RaisedTo from (u + 1) g f (set f' u v)
+  raised_more u {f'} {here} {v} low room old e h = record { at = λ j. by j (ℕ_discrete j u) }
+    where
+      still : get_or f' u 0 ≡ get_or f u 0
+      still = old.at u ∙ ap (raised u) (says_no (flag_says from u u) (λ m. omega (arith, m.1)))
+
+      by : (j : ℕ) → Dec (j ≡ u) → get_or (set f' u v) j 0 ≡ raised j (leb from j && ltb j (u + 1))
+      by j (yes q) =
+          subst (λ (i : ℕ). get_or (set f' u v) i 0 ≡ raised i (leb from i && ltb i (u + 1))) (sym q)
+          (get_or-set_same f' u v 0 room ∙ (h ∙ (ap₂ max still e ∙ ap (raised u) (sym ((flag_says from u (u + 1)).found (low, omega arith))))))
+      by j (no n) =
+          get_or-set_other f' u j v 0 n
+          ∙ (old.at j ∙ ap (raised j) (says_same (flag_says from j u) (says_iff ((λ m. omega arith), (λ m. omega arith)) (flag_says from j (u + 1)))))
+
+  pub raised_end : (u x : ℕ) {f' : List ℕ} → from ≤ u → x < u → u ≤ max from (x + 1) → RaisedTo from u g f f' → Raises from x g f f'
+  raised_end u x low past most old =
+      let same : (j : ℕ) → (leb from j && ltb j u) ≡ (leb from j && leb j x) =
+      λ j. says_same (flag_says from j u) (says_iff ((λ m. omega arith), (λ m. omega arith)) (says_and (says_le from j) (says_le j x))) in
+      record { at = λ j. old.at j ∙ ap (raised j) (same j) }
 
 -- A column in the range was raised, one outside was not.
 pub raised_in : (from x : ℕ) (g : ℕ → ℕ) (f f' : List ℕ) → Raises from x g f f' → (u : ℕ) → from ≤ u → u ≤ x → get_or f' u 0 ≡ max (get_or f u 0) (g u)
@@ -138,6 +169,10 @@ pub floor_done : (width height value : ℕ → ℕ) (n : ℕ) (in_q : ℕ → Bo
 unfolding floor_by
 floor_done width height value n in_q cell from x w h k =
     record { at = λ u a b. k.at u a b ∙ ap (λ (m : ℕ). max m (line_value in_q (λ d. cell u d) w)) (h.at u a b) }
+
+-- The cells of a line up a column.
+pub column_cell : (a : ℕ) (t : List ℕ) (from x w u d : ℕ) → LinesUp a t from x w → from ≤ u → u ≤ x → 1 ≤ d → d ≤ w → Holds a d t × Inside u d a d
+column_cell a t from x w u d s h k p m = (holds_lower d s.holds p m, omega (arith, s.least, s.wide))
 
 -- A floor of zeros, before anything is laid.
 pub zeros : (from x n : ℕ) → Columns from x (λ u. 0) (replicate n 0)

@@ -134,6 +134,23 @@ module _ (rows : Rows) (a b x w : ℕ) (t : List ℕ) (ready : RowReady rows a b
 pub row_held : {rows : Rows} {a b x w : ℕ} {t : List ℕ} → RowReady rows a b x w t → Holds a w t × (x ≤ a)
 row_held {w = w} ready = (holds_lower w ready.holds ready.inside.height_least ready.inside.height_most, ready.inside.width_most)
 
+pub before_none : (a : ℕ) (t : List ℕ) (x w : ℕ) → FullBefore a t x w (0 + 1)
+before_none a t x w = record { least = omega arith; most = omega arith; full = λ u p h. absurd (omega arith) }
+
+pub before_more : (a : ℕ) (t : List ℕ) (x w i : ℕ) {v : ℕ} → i < x → FullBefore a t x w (i + 1) → v ≡ cell_of a t (i + 1) w → (v ≡ empty → ⊥)
+    → FullBefore a t x w (i + 1 + 1)
+before_more a t x w i l f e h =
+    record {
+      least = omega arith;
+      most = omega arith;
+      full = λ u p b.
+          ⊎_elim (λ q. subst (λ (m : ℕ). cell_of a t m w ≡ empty → ⊥) (sym q) (λ z. h (e ∙ z))) (λ k. f.full u p k)
+          (last_or_below {k = u} {n = i + 1} (omega arith));
+    }
+
+pub row_cells : (a : ℕ) (t : List ℕ) (x w i : ℕ) → Holds a w t → x ≤ a → i < x → Holds a w t × Inside (i + 1) w a w
+row_cells a t x w i h k l = (h, omega (arith, h.height_least))
+
 -- What a search for the first empty cell of row w finds, from column 1 on: no test before it said yes.
 abbrev pub Found : ℕ → List ℕ → ℕ → ℕ → Option ℕ → Type 0
 Found a t x w found =

@@ -1,9 +1,11 @@
--- The laws of first_below and first_number: what they find, that there is none, and that only the test counts.
-use Prim.Native.Nat.{ℕ, zero, suc, ◌≤◌, ◌<◌}
+-- The laws of first_below and first_number: what they find, that there is none, one more, and that only the test counts.
+use Prim.Native.Nat.{ℕ, zero, suc, ◌+◌, ◌≤◌, ◌<◌}
 use mathlib.Core.Bool.{Bool, true, false}
 use mathlib.Core.Path.{◌≡◌, refl, sym, ap, ◌∙◌}
+use mathlib.Core.Logic.{⊎_elim}
 use native.Mathlib.Omega.{arith}
 use Rattle.laws.specs.Inner.{first_below, first_number, First}
+use Rattle.laws.proofs.Order.{last_or_below}
 use Rattle.laws.proofs.Says.{true≢false, says_lt}
 use Rattle.laws.proofs.Choice.{chosen, not_chosen, either_way}
 
@@ -60,6 +62,13 @@ first_end f n none = omega (arith, first_within f n, past)
     past : first_below f n < n → ⊥
     past h = true≢false (sym (first_passes f n h) ∙ none (first_below f n) h)
 
+-- As a loop goes, with the code's k + 1: none of the first k passes.
+pub first_more : (f : ℕ → Bool) (k : ℕ) → first_below f k ≡ k → f k ≡ false → first_below f (k + 1) ≡ k + 1
+first_more f k e h = first_end f (k + 1) (λ j l. ⊎_elim (λ q. ap f q ∙ h) (λ b. first_before f k j (omega arith)) (last_or_below {k = j} {n = k} (omega arith)))
+
+pub first_stop : (f : ℕ → Bool) (k n : ℕ) → first_below f k ≡ k → k < n → f k ≡ true → first_below f n ≡ k
+first_stop f k n e h p = first_only (record { within = h; passes = p; first = λ j l. first_before f k j (omega arith) })
+
 -- Only the test's answers below n count.
 pub first_same : (f g : ℕ → Bool) (n : ℕ) → ((k : ℕ) → k < n → f k ≡ g k) → first_below f n ≡ first_below g n
 unfolding first_below
@@ -82,6 +91,21 @@ pub number_first : (f : ℕ → Bool) (n : ℕ) → first_below f n < n → firs
 unfolding first_number
 number_first f n h = chosen (says_lt (first_below f n) n) _ _ h
 
+pub number_passed : (f : ℕ → Bool) (n : ℕ) → first_number f n ≡ 0 → first_below f n ≡ n
+number_passed f n e = omega (arith, first_within f n, past)
+  where
+    past : first_below f n < n → ⊥
+    past h = omega (arith, number_first f n h)
+
 pub number_most : (f : ℕ → Bool) (n : ℕ) → first_number f n ≤ n
 unfolding first_number
 number_most f n = either_way (λ k. k ≤ n) (says_lt (first_below f n) n) _ _ (λ h. omega arith) (λ h. omega arith)
+
+-- As a loop goes, whose test r is f k: none of the first k numbers passes.
+pub number_more : (f : ℕ → Bool) (k : ℕ) {r : Bool} → first_number f k ≡ 0 → r ≡ f k → r ≡ false → first_number f (k + 1) ≡ 0
+number_more f k e h p = number_none f (k + 1) (first_more f k (number_passed f k e) (sym h ∙ p))
+
+pub number_stop : (f : ℕ → Bool) (k n : ℕ) {r : Bool} → first_number f k ≡ 0 → k < n → r ≡ f k → r ≡ true → k + 1 ≡ first_number f n
+number_stop f k n e l h p =
+    let first : first_below f n ≡ k = first_stop f k n (number_passed f k e) l (sym h ∙ p) in
+    omega (arith, number_first f n (omega arith))

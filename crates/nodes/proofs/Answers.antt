@@ -17,6 +17,7 @@ use Rattle.nodes.specs.Inner.{Part, tally, tally_both, near_part, far_part, with
 use Rattle.nodes.specs.declared.Node.{Node}
 use Rattle.nodes.specs.declared.Reading.{Reading}
 use Rattle.nodes.proofs.Own.{part_by_lem}
+use Rattle.nodes.proofs.Encoding.{encode_least}
 use Rattle.nodes.proofs.Exactly.{read_tree}
 use Rattle.nodes.proofs.Room.{PartIs, both_areas, part_least, part_ready}
 
@@ -51,7 +52,10 @@ module _ (pieces : List Piece) (s : List ℕ) where
   abbrev part : Frame → Part
   part = part_at pieces s
 
-  -- What a part's leaves add up to stays within its area.
+  -- No part ends at 0, and what its leaves add up to stays within its area.
+  pub never_zero : (f : Frame) {next : ℕ} {t : Tally} → part f ≡ Part.Read next t → 1 ≤ next
+  never_zero f e = let r = read_tree pieces s f _ _ e in omega (arith, r.place, encode_least r.tree)
+
   leaves_within : (f : Frame) {next : ℕ} {t : Tally} → InRange (Lays pieces) → part f ≡ Part.Read next t
       → (t.value ≤ f.width * f.height * value_max) × (t.pieces + t.scrap ≡ f.width * f.height)
   unfolding tally_of

@@ -13,6 +13,9 @@ module _ (board : Board) where
   unfolding pieces_on
   entries-length = by_index-length _ (count_on board)
 
+  pub few_on : {most : ℕ} → length (pieces_on board) ≤ most → count_on board ≤ most
+  few_on h = omega (arith, entries-length)
+
   entry_at : {k : ℕ} → 1 ≤ k → k ≤ count_on board
       → piece_at (pieces_on board) k ≡ sized (width_at board (k - 1)) (height_at board (k - 1)) (value_at board (k - 1))
   unfolding pieces_on piece_at

@@ -11,8 +11,10 @@ use Rattle.laws.specs.Inner.{number_given, every_number, Wrote}
 use Rattle.laws.proofs.Refusal.{answers, begun_stops, begun_passes}
 use Rattle.laws.specs.Put.{put}
 use Rattle.cutting.specs.Limits.{side_max}
+use Rattle.cutting.specs.Piece.{Inside}
 use Rattle.cutting.specs.Tree.{earning}
 use Rattle.cells.specs.Cells.{cell_of}
+use Rattle.cells.specs.Inner.{Holds}
 use Rattle.job.specs.declared.Job.{Job}
 use Rattle.job.specs.Job.{pieces_of}
 use Rattle.job.specs.Block.{block_length}
@@ -27,7 +29,7 @@ use Rattle.desk.proofs.Answers.{given, left-as-it-was}
 use Rattle.plan.specs.File.{sheet_of}
 use Rattle.plan.specs.Inner.{tree_for, traces_for, plan_file, box_rows, plan_tests, box_refused, file_refused, file_number, plan_refused, planned_with, Ready}
 use Rattle.plan.specs.Refusals.{Readable, plan_refusals}
-use Rattle.plan.proofs.Tracing.{measured_as, tree_by_rules, tree_dissects}
+use Rattle.plan.proofs.Tracing.{on_table, measured_as, tree_by_rules, tree_dissects}
 use Rattle.plan.proofs.Writing.{sheet_pieces, file-length}
 use Rattle.plan.proofs.Enough.{plan_enough_lem}
 use Rattle.plan.specs.declared.Written.{Written as Values}
@@ -55,6 +57,9 @@ written_answer {value = value} {o = o} {file = file} e z w f =
 
 module _ (job : Job) (t : List ℕ) (x y : ℕ) where
   -- The cell that is read, with the code's width.
+  pub cell_there : {a : ℕ} → Readable job t x y → a ≡ job.width → Holds a y t × Inside x y a y
+  cell_there r f = let k = on_table job t x y r f in (k.holds, k.inside)
+
   pub cell_read : {a v : ℕ} → v ≡ cell_of a t x y → a ≡ job.width → v ≡ cell_of job.width t x y
   cell_read e f = e ∙ ap (λ (m : ℕ). cell_of m t x y) f
 

@@ -1,5 +1,6 @@
 -- Each refusal number of plan is given exactly when the list says, and what number 0 grants.
 use Prim.Native.Nat.{ℕ, ◌≤◌}
+use mathlib.Core.Bool.{Bool}
 use mathlib.Core.List.{List}
 use mathlib.Core.Path.{◌≡◌, refl, sym, ap, ◌∙◌}
 use mathlib.Core.Logic.{inr, ◌↔◌}
@@ -13,6 +14,8 @@ use Rattle.laws.proofs.Refusal.{gives_exactly, tested_take, granted}
 use Rattle.cutting.specs.Piece.{Inside}
 use Rattle.cutting.specs.Tree.{Tree}
 use Rattle.cells.specs.Cells.{cell_of}
+use Rattle.cells.specs.Box.{is_empty}
+use Rattle.cells.specs.Inner.{any_in_box}
 use Rattle.fill.specs.Filled.{Full, Bounded}
 use Rattle.fill.proofs.Growing.{full_says}
 use Rattle.job.specs.declared.Job.{Job}
@@ -27,6 +30,10 @@ use Rattle.plan.specs.Refusals.{Readable, HasTree, HasRoom, plan_refusals, PlanR
 use Rattle.plan.proofs.Tracing.{tree_by_rules, rules_tree, tree_says}
 
 module _ (job : Job) (t : List ℕ) (x y : ℕ) where
+  -- The tests of the box, with the code's width.
+  pub empty_test : {a : ℕ} {r : Bool} → r ≡ any_in_box x y (is_empty a t) → a ≡ job.width → r ≡ any_in_box x y (is_empty job.width t)
+  empty_test e g = e ∙ ap (λ (m : ℕ). any_in_box x y (is_empty m t)) g
+
   -- The facts before the tree: the box can be read.
   abbrev pub readable : JobInRange job → cells_of job ≤ length t → Inside x y job.width job.height → Full job.width t x y
       → Bounded (cell_of job.width t) x y → Readable job t x y

@@ -17,7 +17,7 @@ use Rattle.nodes.specs.Encoding.{encode}
 use Rattle.job.specs.declared.Job.{Job}
 use Rattle.job.specs.Job.{pieces_of}
 use Rattle.tracer.specs.declared.table.Table.{Table}
-use Rattle.tracer.specs.Inner.{whole, traced, measured, length_most, Sized, Traceable, Dissects}
+use Rattle.tracer.specs.Inner.{whole, traced, measured, length_most, Sized, OnTable, Traceable, Dissects}
 use Rattle.tracer.proofs.Traced.{measured_most}
 use Rattle.laws.proofs.Wrote.{wrote_as}
 use Rattle.tracer.proofs.ByRules.{traced_by_rules, rules_trace, rules_only, traces_says}
@@ -39,15 +39,19 @@ module _ (job : Job) (t : List ℕ) (x y : ℕ) (r : Readable job t x y) where
       let g = r.usable.range.pieces _ _ _ (record { number = k + 1; numbered = n }) in
       (g.width_least, g.height_least)
 
+  -- The table has the cells of x by y, with the code's width.
+  pub on_table : {a : ℕ} → a ≡ job.width → OnTable a t x y
+  on_table e =
+      let box = usable_box job t x y r.usable r.inside e in
+      record { holds = box.0; inside = omega (arith, r.inside, box) }
+
   -- With the board of the job there is a table, and it can be traced from x by y.
   pub sized : {board : Board} → board ≡ board_of job → Sized (rows_on board)
   unfolding job_rows
   sized is = subst (λ (b : Board). Sized (rows_on b)) (sym is) rows_sized
 
   pub traceable : {table : Table} → table.board.now ≡ board_of job → table.cells.now ≡ t → Traceable table (whole x y)
-  traceable {table} is has =
-      let box = usable_box job t x y r.usable r.inside (ap width_on is ∙ board_width job r.usable.range.count_most) in
-      record { wanted = tt; on_table = rw has (record { holds = box.0; inside = omega (arith, r.inside, box) }) }
+  traceable {table} is has = record { wanted = tt; on_table = rw has (on_table (ap width_on is ∙ board_width job r.usable.range.count_most)) }
 
   -- The tree that is traced is the tree by the rules, there is no other, and where rule 6.6 strikes there is none.
   pub tree_by_rules : traces_for job t x y ≡ true → TreeFor job t x y (tree_for job t x y)

@@ -10,10 +10,10 @@ use lib.Dec.{ltb}
 use lib.ListN.{length, length-append}
 use borrow.Author.Tests.{lt-ltb, le-ltb}
 use Rattle.laws.proofs.Order.{le_or_lt}
-use Rattle.printing.specs.Inner.{Writes}
+use Rattle.printing.specs.Inner.{Printed, Writes}
 use Rattle.printing.specs.declared.Text.{Text}
 use Rattle.printing.specs.Decimal.{digit, decimal_within, decimal}
-use Rattle.printing.proofs.Printed.{writes_as, writes_both}
+use Rattle.printing.proofs.Printed.{printed_as, printed_both}
 
 -- One digit, or the digits of a tenth and one more.
 within_one : (k n : ℕ) → n < 10 → decimal_within (suc k) n ≡ digit n ∷ []
@@ -56,10 +56,18 @@ decimal-length (suc k) n h =
     (le_or_lt 10 n)
 
 -- A number written: its only digit, or the digits of a tenth and one more behind them.
+pub printed_digit : {o p : List ℕ} {at n : ℕ} {d : ℕ} (k : ℕ) → k < 10 → d ≡ digit k → Printed o at (d ∷ []) n p → Printed o at (decimal k) n p
+printed_digit k h e w = printed_as (ap (λ (d : ℕ). d ∷ []) e ∙ sym (decimal_one k h)) w
+
+pub printed_digits : {o p q : List ℕ} {at m n : ℕ} {d : ℕ} (k : ℕ) → 10 ≤ k → d ≡ digit (k % 10) → Printed o at (decimal (k / 10)) m p
+    → Printed p m (d ∷ []) n q → Printed o at (decimal k) n q
+printed_digits {d = d} k h e v w =
+    printed_as (ap (λ (d : ℕ). decimal (k / 10) ++ (d ∷ [])) e ∙ sym (decimal_more k h)) (printed_both (decimal (k / 10)) (d ∷ []) v w)
+
+-- The same in a text.
 pub writes_digit : {t u : Text} {d : ℕ} (k : ℕ) → k < 10 → d ≡ digit k → Writes t (d ∷ []) u → Writes t (decimal k) u
-writes_digit k h e w = writes_as (ap (λ (d : ℕ). d ∷ []) e ∙ sym (decimal_one k h)) w
+writes_digit k h e w = record { row = w.row; printed = printed_digit k h e w.printed }
 
 pub writes_digits : {t u v : Text} {d : ℕ} (k : ℕ) → 10 ≤ k → d ≡ digit (k % 10) → Writes t (decimal (k / 10)) u → Writes u (d ∷ []) v
     → Writes t (decimal k) v
-writes_digits {d = d} k h e x y =
-    writes_as (ap (λ (d : ℕ). decimal (k / 10) ++ (d ∷ [])) e ∙ sym (decimal_more k h)) (writes_both (decimal (k / 10)) (d ∷ []) x y)
+writes_digits k h e x y = record { row = y.row ∙ x.row; printed = printed_digits k h e x.printed y.printed }

@@ -87,6 +87,9 @@ printed_both {o} {p} {q} {at} {m} {n} e f v w = record { place = place; bytes = 
     bytes : q ≡ put o at (fitting o at (e ++ f))
     bytes = w.bytes ∙ (ap₂ (λ (l : List ℕ) (k : ℕ). put l k (fitting p m f)) v.bytes v.place ∙ (joined ∙ ap (put o at) all))
 
+pub printed_as : {o p : List ℕ} {at n : ℕ} {e f : List ℕ} → e ≡ f → Printed o at e n p → Printed o at f n p
+printed_as {o} {p} {at} {n} g w = subst (λ (l : List ℕ). Printed o at l n p) g w
+
 -- Nothing written.
 pub printed_nothing : (o : List ℕ) (at : ℕ) → Printed o at [] at o
 unfolding fitting
@@ -109,6 +112,14 @@ printed_none {o} {at} e h =
     let none = fits_none o at e h in
     record { place = omega (arith, ap length none); bytes = sym (ap (put o at) none ∙ put_none o at) }
 
+-- A word, byte by byte.
+pub printed_more : {o p q : List ℕ} {at m n : ℕ} (word : List ℕ) (i : ℕ) → i < length word → Printed o at (take i word) m p
+    → Printed p m (get_or word i 0 ∷ []) n q → Printed o at (take (i + 1) word) n q
+printed_more word i h v w = printed_as (rw add-one (sym (take-suc word i 0 h))) (printed_both (take i word) (get_or word i 0 ∷ []) v w)
+
+pub printed_whole : {o p : List ℕ} {at n : ℕ} (word : List ℕ) (i : ℕ) → length word ≤ i → Printed o at (take i word) n p → Printed o at word n p
+printed_whole word i h w = printed_as (take_all i word h) w
+
 -- With room enough all of it is written.
 pub printed_put : {o p : List ℕ} {at n : ℕ} {e : List ℕ} → at + length e ≤ length o → Printed o at e n p → (n ≡ at + length e) × (p ≡ put o at e)
 printed_put {o} {at = at} {e = e} h w =
@@ -123,8 +134,8 @@ pub writes_both : {t u v : Text} (e f : List ℕ) → Writes t e u → Writes u 
 writes_both e f x y = record { row = y.row ∙ x.row; printed = printed_both e f x.printed y.printed }
 
 pub writes_as : {t u : Text} {e f : List ℕ} → e ≡ f → Writes t e u → Writes t f u
-writes_as {t} {u} g w = subst (λ (l : List ℕ). Writes t l u) g w
+writes_as g w = record { row = w.row; printed = printed_as g w.printed }
 
 pub writes_more : {t u v : Text} (word : List ℕ) (i : ℕ) → i < length word → Writes t (take i word) u → Writes u (get_or word i 0 ∷ []) v
     → Writes t (take (i + 1) word) v
-writes_more word i h x y = writes_as (rw add-one (sym (take-suc word i 0 h))) (writes_both (take i word) (get_or word i 0 ∷ []) x y)
+writes_more word i h x y = record { row = y.row ∙ x.row; printed = printed_more word i h x.printed y.printed }

@@ -42,6 +42,13 @@ use Rattle.program.proofs.Entered.{still}
 abbrev pub NoneFilled : Job → List ℕ → Type 0
 NoneFilled job t = (u w : ℕ) → Inside u w job.width job.height → cell_of job.width t u w ≡ empty
 
+pub all_still : (start : Changed) (t : List ℕ) (pieces : List Record) (k : ℕ) → (start.refusal ≡ 0 → ⊥) → (added_all start t pieces k).answer ≡ start
+unfolding added_all
+all_still start t pieces zero h = refl
+all_still start t pieces (suc k) h =
+    let before = all_still start t pieces k h in
+    ap (λ (s : Stand). s.answer) (still (added_all start t pieces k) _ (λ e. h (sym (ap (λ (c : Changed). c.refusal) before) ∙ e))) ∙ before
+
 -- Entering a job: open accepted its sheet, then k pieces were added.
 
 -- Every number was 0, the job has the first k pieces, and no cell is filled.

@@ -8,6 +8,7 @@ pub mod Best
 pub mod Same
 pub mod Wrote
 pub mod Parts
+pub mod Tests
 pub mod Found
 pub mod Steps
 pub mod Walked

@@ -39,6 +39,12 @@ abbrev Steps : (Wanted → Type 0) → WantedPart → Option Step → Type 0
 Steps Good p None = Unit {0}
 Steps Good p (Some s) = StepIs Good p s
 
+-- A part is not wanted as waste.
+abbrev pub Used : Wanted → Type 0
+Used Wanted.Free = Unit {0}
+Used (Wanted.Piece k) = Unit {0}
+Used Wanted.Waste = ⊥
+
 -- A number that a search found is 1 at least.
 pub some_number_is : (n : ℕ) {k : ℕ} → some_number n ≡ Some k → (1 ≤ k) × (n ≡ k)
 some_number_is zero {k} e = absurd (none-some k e)
@@ -112,8 +118,10 @@ module _ (rows : Rows) (cell : ℕ → ℕ → ℕ) where
 
   -- Its near part is free, or has a piece of the rows cut out of it.
   pub step_among : (p : WantedPart) {tall : Bool} {c : ℕ} {wanted : Wanted} → Among rows p.wanted → step_in rows cell p ≡ Some (Step.Line c wanted tall)
-      → Among rows wanted
-  step_among p w e = (subst (Steps (Among rows) p) e (next_steps rows cell p (Among rows) tt (λ k l h. (l, h)) (λ k i. subst (Among rows) i w))).near
+      → Among rows wanted × Used wanted
+  step_among p w e =
+      (subst (Steps (λ n. Among rows n × Used n) p) e
+      (next_steps rows cell p (λ n. Among rows n × Used n) (tt, tt) (λ k l h. ((l, h), tt)) (λ k i. (subst (Among rows) i w, tt)))).near
 
 -- A line at c lies inside the side of a part that it crosses.
 abbrev pub LineIn : Bool → ℕ → WantedPart → Type 0

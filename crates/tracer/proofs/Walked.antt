@@ -67,7 +67,7 @@ module _ {table : Table} {p : WantedPart} (ready : Traceable table p) {tall : Bo
   part_ready l h w = record { wanted = w; on_table = part_table ready.on_table tall l h refl refl }
 
   near_ready : Traceable table (near_wanted tall c wanted p)
-  near_ready = part_ready line_inside.least (omega (arith, line_inside)) (step_among rows cell p ready.wanted step)
+  near_ready = part_ready line_inside.least (omega (arith, line_inside)) (step_among rows cell p ready.wanted step).0
 
   far_ready : Traceable table (far_wanted tall c wanted p)
   far_ready = part_ready (line_far line_inside) (omega arith) (beyond_among rows wanted)

@@ -110,13 +110,23 @@ module _ (from x w p q v : ℕ) (f : List ℕ) where
           ∙ ap (raised from (λ u. value_in p q v u w) f u) (sym ((range_says u).found i))
       by u false m = spared u (λ i z. says_false m refl (omega (arith, i.0, i.1, z.wide), i.1))
 
+-- The first pieces of rows that have their sizes and values.
+module _ (width height value : ℕ → ℕ) (from x w : ℕ) where
+  pub fitted_none : (f : List ℕ) → Columns from x (λ u. 0) f → Columns from x (λ u. fitting_value width height value 0 u w) f
+  fitted_none f h = record { at = λ u a b. h.at u a b ∙ fitting_none width height value u w }
+
+  pub fitted_more : (k : ℕ) {f f' : List ℕ} {p q v : ℕ} → Columns from x (λ u. fitting_value width height value k u w) f → p ≡ width k → q ≡ height k
+      → v ≡ value k → Raises from x (λ u. value_in p q v u w) f f' → Columns from x (λ u. fitting_value width height value (k + 1) u w) f'
+  fitted_more k {f} {f'} h d e g r =
+      record { at = λ u a b. fitting_more width height value u w k (h.at u a b) (λ i. value_in (d i) (e i) (g i) u w) (raised_in from x _ f f' r u a b) }
+
 -- Piece by piece, over the records that are a board's pieces: what the first k of them give in column u.
 abbrev pub pieces_up_to : Board → ℕ → ℕ → ℕ → ℕ
 pieces_up_to board w k u = fitting_value (width_at board) (height_at board) (value_at board) k u w
 
 module _ (board : Board) (from x w : ℕ) where
   pub pieces_none : (f : List ℕ) → Columns from x (λ u. 0) f → Columns from x (pieces_up_to board w 0) f
-  pieces_none f h = record { at = λ u a b. h.at u a b ∙ fitting_none (width_at board) (height_at board) (value_at board) u w }
+  pieces_none = fitted_none (width_at board) (height_at board) (value_at board) from x w
 
   -- What one record gives.
   abbrev given : Record → ℕ → ℕ
@@ -125,12 +135,10 @@ module _ (board : Board) (from x w : ℕ) where
   pub pieces_more : (k : ℕ) {records : List Record} {f f' : List ℕ} → records ≡ records_on board → k < length records
       → Columns from x (pieces_up_to board w k) f → Raises from x (given (get_or records k no_record)) f f'
       → Columns from x (pieces_up_to board w (k + 1)) f'
-  pieces_more k {records} {f} {f'} e l h r =
-      record {
-        at = λ u a b.
-            fitting_more (width_at board) (height_at board) (value_at board) u w k (h.at u a b)
-            (ap (λ (piece : Record). given piece u) (record_on board k e l)) (raised_in from x _ f f' r u a b);
-      }
+  pieces_more k e l h r =
+      let same = record_on board k e l in
+      fitted_more (width_at board) (height_at board) (value_at board) from x w k h (ap (λ (q : Record). q.width) same)
+      (ap (λ (q : Record). q.height) same) (ap (λ (q : Record). q.value) same) r
 
 -- Line by line: column u of a floor f once the lines at 1, …, d have been tried.
 unfoldable pub lined : (ℕ → Bool) → (ℕ → ℕ → ℕ) → ℕ → List ℕ → ℕ → ℕ → ℕ

@@ -28,6 +28,7 @@ typedef struct {
 } laid;
 laid board_with_points(khon_job job);
 laid board_without_points(khon_job job);
+size_t board_marks(void);
 
 static khon_job job;
 static laid board;
@@ -221,6 +222,10 @@ static int count(const char *name, const char *engine, int work) {
 }
 
 int main(int words, char **word) {
+    if (board_marks() != MARKS) {
+        fprintf(stderr, "alone: the library's board has %zu marks of a side, not %d\n", board_marks(), MARKS);
+        return 1;
+    }
     if (words == 2 && strcmp(word[1], "agree") == 0)
         return agree();
     if (words == 2 && strcmp(word[1], "times") == 0) {

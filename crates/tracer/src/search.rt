@@ -37,13 +37,13 @@ fn first_piece<F: Fn(usize, usize) -> bool>(table: &Table, number: usize, suits:
 }
 
 // The first piece of exactly this size (rule 6.2), and the first that fits (rule 6.5).
-pub fn exact_piece(table: &Table, width: usize, height: usize, number: usize) -> Option<u16>
+pub(crate) fn exact_piece(table: &Table, width: usize, height: usize, number: usize) -> Option<u16>
     ensures { result ≡ first_piece (rows_in table.now) (is_size (rows_in table.now) width height) number }
 {
     first_piece(table, number, |p, q| p == width && q == height)
 }
 
-pub fn fitting_piece(table: &Table, width: usize, height: usize, number: usize) -> Option<u16>
+pub(crate) fn fitting_piece(table: &Table, width: usize, height: usize, number: usize) -> Option<u16>
     ensures { result ≡ first_piece (rows_in table.now) (fits_in (rows_in table.now) width height) number }
 {
     first_piece(table, number, |p, q| p <= width && q <= height)

@@ -1,14 +1,15 @@
 -- The rule of each letter: what its test says, and the nodes that obey.
 use Prim.Native.Nat.{ℕ, ◌+◌, ◌-◌, ◌≤◌, ◌<◌}
-use mathlib.Core.Bool.{Bool, true, false}
+use mathlib.Core.Bool.{Bool, true, false, cond}
 use mathlib.Core.Path.{◌≡◌, refl, sym, subst, ◌∙◌}
 use mathlib.Core.List.{List}
 use native.Mathlib.Omega.{arith}
 use lib.ListN.{length, get_or}
+use Rattle.std.specs.Bool.{then_some}
 use Rattle.std.specs.Prelude.{Option, Some, None}
 use Rattle.laws.specs.Inner.{Says}
 use Rattle.laws.proofs.Choice.{chosen, not_chosen, either_way}
-use Rattle.laws.proofs.Says.{says_iff, says_and, says_le, says_eq}
+use Rattle.laws.proofs.Says.{true≢false, says_iff, says_and, says_le, says_eq}
 use Rattle.cutting.specs.Piece.{Piece, piece_at, Numbered}
 use Rattle.cutting.specs.Dissection.{rest, crossed, Line}
 use Rattle.fields.specs.Number.{number2_of}
@@ -33,6 +34,12 @@ is_piece_says pieces k x y =
       λ n. (n.first, (n.last, (n.width, n.height))),
     )
     (says_and (says_le 1 k) (says_and (says_le k (length pieces)) (says_and (says_eq _ _) (says_eq _ _))))
+
+-- A node is kept by a test that holds just where its rule does.
+pub kept : {A : Type 0} {b d : Bool} {P : Type 0} {r : Option A} (x : A) → Says d P
+    → (b ≡ true → P) → (P → b ≡ true) → r ≡ then_some b x → r ≡ cond d (Some x) None
+kept {b = true} x s f g e = e ∙ sym (chosen s _ _ (f refl))
+kept {b = false} x s f g e = e ∙ sym (not_chosen s _ _ (λ p. true≢false (sym (g p))))
 
 -- The letters, one by one.
 module _ (pieces : List Piece) (letter number x y : ℕ) where

@@ -1,8 +1,8 @@
-use Rattle.std.proofs.Common.{rules}
+use Rattle.std.proofs.Common.{arith}
 use Rattle.cells.specs.Inner.{asked, exceeds, too_much}
 use Rattle.cells.proofs.has_exceeding.Goals as goal
 
 -- `cells::has_exceeding` is box_has with what it looks for.
 pub returns : goal.returns
 unfolding asked exceeds too_much
-returns c = c.box_has.ensures too_much (λ value most r h. search rules)
+returns c = c.box_has.ensures too_much (λ value most r h. grind arith)

@@ -43,7 +43,12 @@ pub(crate) fn exact_piece(table: &Table, width: usize, height: usize, number: us
     first_piece(table, number, |p, q| p == width && q == height)
 }
 
-pub(crate) fn fitting_piece(table: &Table, width: usize, height: usize, number: usize) -> Option<u16>
+pub(crate) fn fitting_piece(
+    table: &Table,
+    width: usize,
+    height: usize,
+    number: usize,
+) -> Option<u16>
     ensures { result ≡ first_piece (rows_in table.now) (fits_in (rows_in table.now) width height) number }
 {
     first_piece(table, number, |p, q| p <= width && q <= height)

@@ -1,5 +1,5 @@
 -- How a call joins its refusal and its work, over the definitions.
-use Prim.Native.Nat.{ℕ, zero, suc, ◌≤◌}
+use Prim.Native.Nat.{ℕ, zero, suc}
 use mathlib.Core.Bool.{◌||◌}
 use mathlib.Core.List.{List}
 use mathlib.Core.Path.{◌≡◌, refl, sym, ap, ap₂, ◌∙◌}

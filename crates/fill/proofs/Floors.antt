@@ -20,7 +20,6 @@ use Rattle.job.specs.Job.{no_record}
 use Rattle.board.specs.declared.Board.{Board}
 use Rattle.board.specs.Inner.{records_on, width_at, height_at, value_at}
 use Rattle.board.proofs.Laid.{record_on}
-use Rattle.cells.specs.Cells.{cell_of}
 use Rattle.cells.specs.Inner.{Holds, fits}
 use Rattle.cells.proofs.Emptied.{fits_says}
 use Rattle.cells.proofs.Places.{holds_lower}
